@@ -1,0 +1,6 @@
+-- Read in this order.
+pub mod Readers  -- laws of one number and what it stands for
+pub mod Sequences  -- laws of parts read one behind the other
+pub mod Codecs  -- places, triples and nodes, each with its writing
+pub mod Parts  -- lists, blocks and alternatives, each with its writing
+pub mod Verdicts  -- what follows for whole byte strings

@@ -1,0 +1,177 @@
+-- What a reader makes of bytes: the query, or the first number that is wrong. Assumes nothing.
+--     Reader A        from a place, and the bytes from there on, to an A, with the place and the bytes behind it
+--     role r f        one number; f says what it stands for, and r refuses it where f gives none
+--     both p q c      first p, then q, put together by c
+--     times n item    n items, one behind the other
+--     verdict bytes   what the whole byte string is
+use mathlib.Core.Bool.{Bool, cond}
+use mathlib.Core.List.{List, [], _∷_}
+use Prim.Native.Nat.{ℕ, zero, suc, _+_, _-_, min}
+use lib.Dec.{ltb}
+use lib.ListN.{length, drop}
+use Rattle.std.specs.declared.option.Option.{Option}
+use Rattle.std.specs.declared.option.Option.the-variants.{Some, None}
+use Rattle.varint.specs.Decode.{Decoded, ends-early, malformed, decoded, decode}
+use Rattle.refusal.specs.declared.refusal.Refusal.{Refusal}
+use Rattle.refusal.specs.declared.refusal.Refusal.the-variants.{EndsEarly, Malformed, CountOutside, PlaceCode, NodeInvalid, BytesLeft, SharedByBlocks}
+use Rattle.query.specs.declared.place.Place.{Place}
+use Rattle.query.specs.declared.kind.Kind.{Kind}
+use Rattle.query.specs.declared.kind.Kind.the-variants as kind
+use Rattle.query.specs.declared.node.Node.{Node}
+use Rattle.query.specs.declared.node.Node.the-variants.{Equal, Less, Bound, Not, And, Or}
+use Rattle.query.specs.declared.pattern.TriplePattern.{TriplePattern}
+use Rattle.query.specs.Parts.{Part, Group}
+use Rattle.query.specs.Codes.{within, when, place-from, kind-from, most-variable}
+use Rattle.query.specs.Lawful.{total, triples-in, nodes-in, shares, some, most-alternatives, most-blocks, most-in-part, most-in-all}
+
+-- a value was taken, with the place behind it and the bytes from there on; or a number was refused at its place
+pub data Read (A : Type 0) : Type 0 where
+  took : A → ℕ → List ℕ → Read A
+  refused : Refusal → ℕ → Read A
+
+-- from a place and the bytes from there on
+abbrev pub Reader : Type 0 → Type 0
+Reader A = ℕ → List ℕ → Read A
+
+-- what was taken is handed on, a refusal stays
+abbrev pub next : {A B : Type 0} → Read A → (A → ℕ → List ℕ → Read B) → Read B
+next (took a at bytes) k = k a at bytes
+next (refused r at) k = refused r at
+
+-- the first number of bytes, at the place at
+abbrev pub numbered : ℕ → List ℕ → Decoded → Read ℕ
+numbered at bytes ends-early = refused EndsEarly at
+numbered at bytes malformed = refused Malformed at
+numbered at bytes (decoded n k) = took n (at + k) (drop k bytes)
+
+-- a number
+abbrev pub number : Reader ℕ
+number at bytes = numbered at bytes (decode bytes)
+
+-- what a number at the place at stands for, or its refusal
+abbrev pub meant : {A : Type 0} → Refusal → ℕ → Option A → ℕ → List ℕ → Read A
+meant r at None after bytes = refused r at
+meant r at (Some a) after bytes = took a after bytes
+
+-- a number that stands for something
+abbrev pub role : {A : Type 0} → Refusal → (ℕ → Option A) → Reader A
+role r f at bytes = next (number at bytes) (λ n after rest. meant r at (f n) after rest)
+
+-- one part, put into another form
+abbrev pub one : {A B : Type 0} → Reader A → (A → B) → Reader B
+one p c at bytes = next (p at bytes) (λ a after rest. took (c a) after rest)
+
+-- two parts, the second read in view of the first
+abbrev pub both : {A B C : Type 0} → Reader A → (A → Reader B) → (A → B → C) → Reader C
+both p q c at bytes = next (p at bytes) (λ a after rest. one (q a) (c a) after rest)
+
+-- so many items; step says what the next one is read in view of
+abbrev pub times : {S A : Type 0} → ℕ → (S → Reader A) → (S → A → S) → S → Reader (List A)
+times zero item step s at bytes = took [] at bytes
+times (suc n) item step s at bytes = both (item s) (λ a. times n item step (step s a)) _∷_ at bytes
+
+-- a count from low to high
+abbrev pub count : ℕ → ℕ → Reader ℕ
+count low high = role CountOutside (λ n. when (within low high n) n)
+
+-- a count from low to high, and so many items
+abbrev pub series : {S A : Type 0} → ℕ → ℕ → (S → Reader A) → (S → A → S) → S → Reader (List A)
+series low high item step s = both (count low high) (λ n. times n item step s) (λ n xs. xs)
+
+-- what is left of the most in one part where used of the most in all are taken
+abbrev pub room : ℕ → ℕ
+room used = min most-in-part (most-in-all - used)
+
+-- a place
+abbrev pub place : Reader Place
+place = role PlaceCode place-from
+
+-- a triple pattern
+abbrev pub triple : Reader TriplePattern
+triple =
+    both {B = Place × Place} place (λ _. both place (λ _. place) (λ p o. (p, o)))
+    (λ s po. record { subject = s; property = po .0; object = po .1 })
+
+-- at least low triples, where used were read before
+abbrev pub triples : ℕ → ℕ → Reader (List TriplePattern)
+triples low used = series low (room used) (λ (_ : ℕ). triple) (λ i _. i + 1) 0
+
+-- a variable that a node names
+abbrev pub variable : Reader ℕ
+variable = role NodeInvalid (λ v. when (within 0 most-variable v) v)
+
+-- a node that node number i names
+abbrev pub lower : ℕ → Reader ℕ
+lower i = role NodeInvalid (λ a. when (ltb a i) a)
+
+-- what follows the kind of node number i
+abbrev pub operands : ℕ → Kind → Reader Node
+operands i kind.Equal = both place (λ _. place) (λ a b. Equal a b)
+operands i kind.Less = both place (λ _. place) (λ a b. Less a b)
+operands i kind.Bound = one variable (λ v. Bound v)
+operands i kind.Not = one (lower i) (λ a. Not a)
+operands i kind.And = both (lower i) (λ _. lower i) (λ a b. And a b)
+operands i kind.Or = both (lower i) (λ _. lower i) (λ a b. Or a b)
+
+-- node number i of a filter
+abbrev pub node : ℕ → Reader Node
+node i = both (role NodeInvalid kind-from) (operands i) (λ _ n. n)
+
+-- a filter, where used nodes were read before
+abbrev pub filter : ℕ → Reader (List Node)
+filter used = series 0 (room used) node (λ i _. i + 1) 0
+
+-- how many triples and filter nodes were read before
+pub record Used : Type 0 where
+  pub triples : ℕ
+  pub nodes : ℕ
+
+-- a block
+abbrev pub block : Used → Reader Part
+block u = both (triples 1 (u .triples)) (λ _. filter (u .nodes)) (λ ts ns. record { triples = ts; filter = ns })
+
+-- what is used with a block more
+abbrev pub with-part : Used → Part → Used
+with-part u b = record { triples = u .triples + length (b .triples); nodes = u .nodes + length (b .filter) }
+
+-- the blocks of an alternative
+abbrev pub blocks : Used → Reader (List Part)
+blocks u = series 0 most-blocks block with-part u
+
+-- what is used with so many triples more
+abbrev pub with-triples : Used → ℕ → Used
+with-triples u n = record { triples = u .triples + n; nodes = u .nodes }
+
+-- how many nodes are used behind the blocks
+abbrev pub nodes-after : Used → List Part → ℕ
+nodes-after u bs = u .nodes + total (λ b. length (b .filter)) bs
+
+-- an alternative
+abbrev pub alternative : Used → Reader Group
+alternative u =
+    both {B = List Part × List Node} (triples 0 (u .triples))
+    (λ ts. both (blocks (with-triples u (length ts))) (λ bs. filter (nodes-after u bs)) (λ bs ns. (bs, ns)))
+    (λ ts rest. record { required = ts; blocks = rest .0; filter = rest .1 })
+
+-- what is used with an alternative more
+abbrev pub with-group : Used → Group → Used
+with-group u g = record { triples = u .triples + triples-in g; nodes = u .nodes + nodes-in g }
+
+-- the alternatives of a query
+abbrev pub alternatives : Reader (List Group)
+alternatives = series 1 most-alternatives alternative with-group (record { triples = 0; nodes = 0 })
+
+-- a byte string is a query, or is refused at a place
+pub data Verdict : Type 0 where
+  accepted : List Group → Verdict
+  rejected : Refusal → ℕ → Verdict
+
+-- the alternatives were read: nothing may follow, and then no variable may be shared by blocks alone
+abbrev pub concluded : Read (List Group) → Verdict
+concluded (refused r at) = rejected r at
+concluded (took q at (b ∷ bytes)) = rejected BytesLeft at
+concluded (took q at []) = cond (some shares q) (rejected SharedByBlocks at) (accepted q)
+
+-- what the byte string is
+unfoldable pub verdict : List ℕ → Verdict
+verdict bytes = concluded (alternatives 0 bytes)

@@ -1,0 +1,8 @@
+//! A coded query: its types, its reader, its writer.
+pub mod alternative;
+pub mod block;
+pub mod kind;
+pub mod node;
+pub mod pattern;
+pub mod place;
+pub mod theorems;

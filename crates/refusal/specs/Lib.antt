@@ -1,0 +1,2 @@
+-- Read this.
+pub mod Numbers  -- the published number of each refusal

@@ -1,0 +1,3 @@
+//! Why a call says no: the refusals with their published numbers, and the place that each names.
+pub mod refusal;
+pub mod rejection;

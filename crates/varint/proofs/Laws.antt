@@ -1,0 +1,242 @@
+-- Laws of numbers in seven-bit groups: what is written is read back, and nothing else is read as a number.
+-- Assumes nothing.
+use mathlib.Core.Bool.{true, false, cond, _&&_}
+use mathlib.Core.List.{List, [], _∷_, _++_}
+use mathlib.Core.Logic.{_⊎_, inl, inr, ⊎-elim}
+use mathlib.Core.Path.{_≡_, refl, sym, ap, subst, _∙_}
+use Prim.Native.Nat.{ℕ, zero, suc, _+_, _*_, _/_, _%_, _^_, _≤_, _<_}
+use native.Mathlib.Nat.{pow-suc}
+use native.Mathlib.Omega.{arith}
+use lib.Dec.{ltb, leb, eqb}
+use lib.ListN.{length, take, drop}
+use Rattle.std.proofs.shelf.Lists.{append-nil, take-at, take-append-drop, length-take-le}
+use Rattle.std.proofs.shelf.Tests.{and-from, and-parts, cases-lt, cond-both, cond-true, cond-false}
+use Rattle.std.proofs.shelf.Tests.{eq-eqb, eqb-true, le-leb, leb-true, lt-ltb, le-ltb, ltb-true, ltb-false}
+use Rattle.varint.specs.Encode.{encode, groups, largest}
+use Rattle.varint.specs.Decode.{ends-early, malformed, decoded, decode}
+use Rattle.varint.specs.Decode.{one-more, span, value, same, judged, spanned}
+
+-- groups
+
+-- what holds of a last byte, and with each byte before it, holds of a number and its groups
+pub groups-each : (P : ℕ → List ℕ → Type 0)
+    → ((n : ℕ) → n < 128 → P n (n ∷ []))
+    → ((n : ℕ) (bs : List ℕ) → 128 ≤ n → P (n / 128) bs → P n ((128 + n % 128) ∷ bs))
+    → (k n : ℕ) → n < 128 ^ suc k → P n (groups k n)
+groups-each P last more zero n h = last n h
+groups-each P last more (suc k) n h =
+    cond-both (ltb n 128) (n ∷ []) ((128 + n % 128) ∷ groups k (n / 128)) (P n)
+    (λ e. last n (ltb-true n 128 e))
+    (λ e. more n (groups k (n / 128)) (ltb-false n 128 e)
+    (groups-each P last more k (n / 128) (omega (arith, pow-suc 128 (suc k)))))
+
+pub length-groups : (k n : ℕ) → (1 ≤ length (groups k n)) × (length (groups k n) ≤ suc k)
+length-groups zero n = (omega arith, omega arith)
+length-groups (suc k) n =
+    cond-both (ltb n 128) (n ∷ []) ((128 + n % 128) ∷ groups k (n / 128))
+    (λ bs. (1 ≤ length bs) × (length bs ≤ suc (suc k)))
+    (λ _. (omega arith, omega arith))
+    (λ _. let h = length-groups k (n / 128) in (omega arith, omega arith))
+
+-- encode
+
+pub encode-each : (P : ℕ → List ℕ → Type 0)
+    → ((n : ℕ) → n < 128 → P n (n ∷ []))
+    → ((n : ℕ) (bs : List ℕ) → 128 ≤ n → P (n / 128) bs → P n ((128 + n % 128) ∷ bs))
+    → (n : ℕ) → n ≤ largest → P n (encode n)
+unfolding encode
+encode-each P last more n h = groups-each P last more 4 n (omega arith)
+
+pub length-encode : (n : ℕ) → (1 ≤ length (encode n)) × (length (encode n) ≤ 5)
+unfolding encode
+length-encode n = length-groups 4 n
+
+-- span
+
+pub one-more-suc : (k : ℕ) → 0 < k → one-more k ≡ suc k
+one-more-suc zero h = omega arith
+one-more-suc (suc k) h = refl
+
+pub one-more-some : (k : ℕ) → 0 < one-more k → 0 < k
+one-more-some zero h = omega arith
+one-more-some (suc k) h = omega arith
+
+pub one-more-le : (k m : ℕ) → k ≤ m → one-more k ≤ suc m
+one-more-le zero m h = omega arith
+one-more-le (suc k) m h = omega arith
+
+pub span-last : (b : ℕ) (bs : List ℕ) → b < 128 → span (b ∷ bs) ≡ 1
+span-last b bs h = cond-true (ltb b 128) 1 (one-more (span bs)) (lt-ltb b 128 h)
+
+pub span-more : (b : ℕ) (bs : List ℕ) → 128 ≤ b → span (b ∷ bs) ≡ one-more (span bs)
+span-more b bs h = cond-false (ltb b 128) 1 (one-more (span bs)) (le-ltb b 128 h)
+
+pub span-suc : (b : ℕ) (bs : List ℕ) → 128 ≤ b → 0 < span bs → span (b ∷ bs) ≡ suc (span bs)
+span-suc b bs h some = span-more b bs h ∙ one-more-suc (span bs) some
+
+-- the first byte is the last one, or bytes that have a last one follow it
+pub span-cases : (b : ℕ) (bs : List ℕ) → 0 < span (b ∷ bs)
+    → ((b < 128) × (span (b ∷ bs) ≡ 1)) ⊎ ((128 ≤ b) × (0 < span bs) × (span (b ∷ bs) ≡ suc (span bs)))
+span-cases b bs h =
+    ⊎-elim (λ less. inl (less, span-last b bs less))
+    (λ more. let some = one-more-some (span bs) (subst (λ (k : ℕ). 0 < k) (span-more b bs more) h)
+    in inr (more, some, span-suc b bs more some))
+    (cases-lt b 128)
+
+pub span-length : (bs : List ℕ) → span bs ≤ length bs
+span-length [] = omega arith
+span-length (b ∷ bs) =
+    cond-both (ltb b 128) 1 (one-more (span bs)) (λ k. k ≤ suc (length bs))
+    (λ _. omega arith)
+    (λ _. one-more-le (span bs) (length bs) (span-length bs))
+
+pub span-take : (bs rest : List ℕ) → 0 < span bs → span (take (span bs) bs ++ rest) ≡ span bs
+span-take [] rest h = omega arith
+span-take (b ∷ bs) rest h =
+    ⊎-elim
+    (λ one. rw (one .1) (span-last b rest (one .0)))
+    (λ more. let e = span-take bs rest (more .1)
+    in rw (more .2) (span-suc b (take (span bs) bs ++ rest) (more .0) (omega (arith, e, more .1)) ∙ ap suc e))
+    (span-cases b bs h)
+
+pub span-encode : (n : ℕ) (rest : List ℕ) → n ≤ largest → span (encode n ++ rest) ≡ length (encode n)
+span-encode n rest h =
+    encode-each (λ _ bs. (0 < length bs) × (span (bs ++ rest) ≡ length bs))
+    (λ n less. (omega arith, span-last n rest less))
+    (λ n bs more e. (
+      omega arith,
+      span-suc (128 + n % 128) (bs ++ rest) (omega arith) (omega arith) ∙ ap suc (e .1),
+    )) n h .1
+
+-- same
+
+pub same-refl : (bs : List ℕ) → same bs bs ≡ true
+same-refl [] = refl
+same-refl (b ∷ bs) = and-from (eqb b b) (same bs bs) (eq-eqb b b refl) (same-refl bs)
+
+pub same-true : (xs ys : List ℕ) → same xs ys ≡ true → xs ≡ ys
+same-true [] [] h = refl
+same-true [] (y ∷ ys) h = cc
+same-true (x ∷ xs) [] h = cc
+same-true (x ∷ xs) (y ∷ ys) h =
+    let both = and-parts (eqb x y) (same xs ys) h
+    in let head = eqb-true x y (both .0)
+    in let tail = same-true xs ys (both .1)
+    in cc
+
+-- value
+
+pub value-encode : (n : ℕ) → n ≤ largest → value (encode n) ≡ n
+value-encode = encode-each (λ n bs. value bs ≡ n) (λ n h. omega arith) (λ n bs h e. omega arith)
+
+-- judged
+
+pub judged-yes : (bs : List ℕ) → value bs ≤ largest → encode (value bs) ≡ bs
+    → judged bs ≡ decoded (value bs) (length bs)
+judged-yes bs h e =
+    cond-true (leb (value bs) largest && same (encode (value bs)) bs)
+    (decoded (value bs) (length bs)) malformed
+    (and-from _ _ (le-leb (value bs) largest h) (rw e (same-refl bs)))
+
+judged-encode : (n : ℕ) → n ≤ largest → judged (encode n) ≡ decoded n (length (encode n))
+judged-encode n h =
+    let e = value-encode n h
+    in judged-yes (encode n) (omega arith) (ap encode e) ∙ ap (λ m. decoded m (length (encode n))) e
+
+malformed≢decoded : (n k : ℕ) → malformed ≡ decoded n k → ⊥
+malformed≢decoded n k e = let z : _≡_ {A = ℕ} 0 1 = cc in omega arith
+
+-- what is in order is within the limit and stands as it is written
+pub judged-back : (bs : List ℕ) (n k : ℕ) → judged bs ≡ decoded n k
+    → (n ≤ largest) × (encode n ≡ bs) × (k ≡ length bs)
+judged-back bs n k = cond-both (leb (value bs) largest && same (encode (value bs)) bs)
+    (decoded (value bs) (length bs)) malformed
+    (λ r. r ≡ decoded n k → (n ≤ largest) × (encode n ≡ bs) × (k ≡ length bs))
+    (λ t e.
+    let both = and-parts (leb (value bs) largest) (same (encode (value bs)) bs) t
+    in let is : value bs ≡ n = cc
+    in (
+      omega (arith, leb-true (value bs) largest (both .0)),
+      ap encode (sym is) ∙ same-true (encode (value bs)) bs (both .1),
+      cc,
+    ))
+    (λ _ e. absurd (malformed≢decoded n k e))
+
+-- decode
+
+spanned-some : (k : ℕ) (bs : List ℕ) → 0 < k → spanned k bs ≡ judged (take k bs)
+spanned-some zero bs h = let z : _≡_ {A = ℕ} 0 1 = omega arith in cc
+spanned-some (suc k) bs h = refl
+
+pub decode-none : (bs : List ℕ) → span bs ≡ 0 → decode bs ≡ ends-early
+unfolding decode
+decode-none bs e = rw e
+
+pub decode-some : (bs : List ℕ) → 0 < span bs → decode bs ≡ judged (take (span bs) bs)
+unfolding decode
+decode-some bs h = spanned-some (span bs) bs h
+
+-- a string that does not end early has a last byte
+pub some-from-decode : (bs : List ℕ) → (decode bs ≡ ends-early → ⊥) → 0 < span bs
+some-from-decode bs late =
+    ⊎-elim (λ none. absurd (late (decode-none bs (omega arith)))) (λ some. some) (cases-lt (span bs) 1)
+
+pub some-from-decoded : (bs : List ℕ) (n k : ℕ) → decode bs ≡ decoded n k → 0 < span bs
+some-from-decoded bs n k h =
+    some-from-decode bs (λ e. let z : _≡_ {A = ℕ} 0 1 = cc in omega arith)
+
+pub some-from-malformed : (bs : List ℕ) → decode bs ≡ malformed → 0 < span bs
+some-from-malformed bs h =
+    some-from-decode bs (λ e. let z : _≡_ {A = ℕ} 0 1 = cc in omega arith)
+
+pub length-span : (bs : List ℕ) → length (take (span bs) bs) ≡ span bs
+length-span bs = length-take-le (span bs) bs (span-length bs)
+
+-- what stands behind the first number does not matter
+pub decode-take : (bs rest : List ℕ) → 0 < span bs → decode (take (span bs) bs ++ rest) ≡ decode bs
+decode-take bs rest h =
+    let e = span-take bs rest h
+    in let front = take-at (take (span bs) bs) rest (span bs) (length-span bs)
+    in let some : 0 < span (take (span bs) bs ++ rest) = omega arith
+    in decode-some (take (span bs) bs ++ rest) some ∙ (rw (e, front) (sym (decode-some bs h)))
+
+pub decode-encode : (n : ℕ) (rest : List ℕ) → n ≤ largest
+    → decode (encode n ++ rest) ≡ decoded n (length (encode n))
+decode-encode n rest h =
+    let e = span-encode n rest h
+    in let front = take-at (encode n) rest (length (encode n)) refl
+    in let some : 0 < span (encode n ++ rest) = omega (arith, length-encode n)
+    in decode-some (encode n ++ rest) some ∙ rw (e, front) (judged-encode n h)
+
+pub decode-alone : (n : ℕ) → n ≤ largest → decode (encode n) ≡ decoded n (length (encode n))
+decode-alone n h = ap decode (sym (append-nil (encode n))) ∙ decode-encode n [] h
+
+pub span-decoded : (bs : List ℕ) (n k : ℕ) → decode bs ≡ decoded n k → span bs ≡ k
+span-decoded bs n k h =
+    let some = some-from-decoded bs n k h
+    in sym (judged-back (take (span bs) bs) n k (sym (decode-some bs some) ∙ h) .2 ∙ length-span bs)
+
+pub take-decoded : (bs : List ℕ) (n k : ℕ) → decode bs ≡ decoded n k → (n ≤ largest) × (take k bs ≡ encode n)
+take-decoded bs n k h =
+    let some = some-from-decoded bs n k h
+    in let back = judged-back (take (span bs) bs) n k (sym (decode-some bs some) ∙ h)
+    in (back .0, ap (λ m. take m bs) (sym (span-decoded bs n k h)) ∙ sym (back .1))
+
+pub encode-decode : (bs : List ℕ) (n k : ℕ) → decode bs ≡ decoded n k
+    → (n ≤ largest) × (bs ≡ encode n ++ drop k bs) × (k ≡ length (encode n))
+encode-decode bs n k h =
+    let front = take-decoded bs n k h
+    in let e = span-decoded bs n k h
+    in let within : k ≤ length bs = omega (arith, span-length bs)
+    in (
+      front .0,
+      rw (← front .1) (sym (take-append-drop k bs)),
+      sym (length-take-le k bs within) ∙ ap length (front .1),
+    )
+
+pub malformed-stays : (bs rest : List ℕ) → decode bs ≡ malformed
+    → decode (take (span bs) bs ++ rest) ≡ malformed
+malformed-stays bs rest h = decode-take bs rest (some-from-malformed bs h) ∙ h
+
+pub span-malformed : (bs : List ℕ) → decode bs ≡ malformed → (0 < span bs) × (span bs ≤ length bs)
+span-malformed bs h = (some-from-malformed bs h, span-length bs)

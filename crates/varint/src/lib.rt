@@ -1,0 +1,3 @@
+//! Numbers in seven-bit groups: reading and writing them at a place of a byte string.
+pub mod number;
+pub mod theorems;
