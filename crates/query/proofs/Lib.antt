@@ -1,4 +1,5 @@
 -- Read in this order.
+pub mod Lawful  -- laws of tests over lists
 pub mod Readers  -- laws of one number and what it stands for
 pub mod Sequences  -- laws of parts read one behind the other
 pub mod Codecs  -- places, triples and nodes, each with its writing

@@ -3,5 +3,6 @@ pub mod Parts  -- a query as plain lists
 pub mod Codes  -- the numbers of places and of node kinds
 pub mod Format  -- a query's bytes
 pub mod Lawful  -- which queries there are
+pub mod Variables  -- sets of variables
 pub mod Grammar  -- what a reader makes of bytes
 pub mod Theorems  -- what this crate proves

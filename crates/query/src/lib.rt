@@ -1,8 +1,10 @@
 //! A coded query: its types, its reader, its writer.
 pub mod alternative;
 pub mod block;
+mod gather;
 pub mod kind;
 pub mod node;
 pub mod pattern;
 pub mod place;
 pub mod theorems;
+mod variables;

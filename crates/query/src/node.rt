@@ -1,4 +1,7 @@
 //! Nodes of a filter.
+ghost use mathlib.Core.Path.{_≡_};
+ghost use Rattle.query.specs.Format.{kind-of};
+use crate::kind::Kind;
 use crate::place::Place;
 
 /// A node of a filter. A node that it names is given by its number, counted from 0 in the same filter.
@@ -16,4 +19,20 @@ pub enum Node {
     And(u32, u32),
     /// One of the nodes holds.
     Or(u32, u32),
+}
+
+impl Node {
+    /// The kind of the node.
+    pub(crate) fn kind(&self) -> Kind
+        ensures { λ r. ⌜ r ≡ kind-of (now (self .entry)) ⌝ }
+    {
+        match self {
+            Node::Equal(_, _) => Kind::Equal,
+            Node::Less(_, _) => Kind::Less,
+            Node::Bound(_) => Kind::Bound,
+            Node::Not(_) => Kind::Not,
+            Node::And(_, _) => Kind::And,
+            Node::Or(_, _) => Kind::Or,
+        }
+    }
 }

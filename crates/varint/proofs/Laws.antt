@@ -4,7 +4,7 @@ use mathlib.Core.Bool.{true, false, cond, _&&_}
 use mathlib.Core.List.{List, [], _∷_, _++_}
 use mathlib.Core.Logic.{_⊎_, inl, inr, ⊎-elim}
 use mathlib.Core.Path.{_≡_, refl, sym, ap, subst, _∙_}
-use Prim.Native.Nat.{ℕ, zero, suc, _+_, _*_, _/_, _%_, _^_, _≤_, _<_}
+use Prim.Native.Nat.{ℕ, zero, suc, _+_, _-_, _*_, _/_, _%_, _^_, _≤_, _<_}
 use native.Mathlib.Nat.{pow-suc}
 use native.Mathlib.Omega.{arith}
 use lib.Dec.{ltb, leb, eqb}
@@ -18,8 +18,27 @@ use Rattle.varint.specs.Decode.{one-more, span, value, same, judged, spanned}
 
 -- groups
 
+pub groups-less : (k n : ℕ) → n < 128 → groups k n ≡ n ∷ []
+groups-less zero n h = refl
+groups-less (suc k) n h =
+    cond-true (ltb n 128) (n ∷ []) ((128 + n % 128) ∷ groups k (n / 128)) (lt-ltb n 128 h)
+
+pub groups-more : (k n : ℕ) → 128 ≤ n → groups (suc k) n ≡ (128 + n % 128) ∷ groups k (n / 128)
+groups-more k n h =
+    cond-false (ltb n 128) (n ∷ []) ((128 + n % 128) ∷ groups k (n / 128)) (le-ltb n 128 h)
+
+-- a number that k groups and a last one hold takes no more where more are allowed
+groups-enough : (k n : ℕ) → n < 128 ^ suc k → groups (suc k) n ≡ groups k n
+groups-enough zero n h = groups-less 1 n h
+groups-enough (suc k) n h =
+    ⊎-elim
+    (λ less. groups-less (suc (suc k)) n less ∙ sym (groups-less (suc k) n less))
+    (λ more. let e = groups-enough k (n / 128) (omega (arith, pow-suc 128 (suc k)))
+    in groups-more (suc k) n more ∙ ap (λ bs. (128 + n % 128) ∷ bs) e ∙ sym (groups-more k n more))
+    (cases-lt n 128)
+
 -- what holds of a last byte, and with each byte before it, holds of a number and its groups
-pub groups-each : (P : ℕ → List ℕ → Type 0)
+groups-each : (P : ℕ → List ℕ → Type 0)
     → ((n : ℕ) → n < 128 → P n (n ∷ []))
     → ((n : ℕ) (bs : List ℕ) → 128 ≤ n → P (n / 128) bs → P n ((128 + n % 128) ∷ bs))
     → (k n : ℕ) → n < 128 ^ suc k → P n (groups k n)
@@ -30,7 +49,7 @@ groups-each P last more (suc k) n h =
     (λ e. more n (groups k (n / 128)) (ltb-false n 128 e)
     (groups-each P last more k (n / 128) (omega (arith, pow-suc 128 (suc k)))))
 
-pub length-groups : (k n : ℕ) → (1 ≤ length (groups k n)) × (length (groups k n) ≤ suc k)
+length-groups : (k n : ℕ) → (1 ≤ length (groups k n)) × (length (groups k n) ≤ suc k)
 length-groups zero n = (omega arith, omega arith)
 length-groups (suc k) n =
     cond-both (ltb n 128) (n ∷ []) ((128 + n % 128) ∷ groups k (n / 128))
@@ -39,6 +58,15 @@ length-groups (suc k) n =
     (λ _. let h = length-groups k (n / 128) in (omega arith, omega arith))
 
 -- encode
+
+pub encode-less : (n : ℕ) → n < 128 → encode n ≡ n ∷ []
+unfolding encode
+encode-less n h = groups-less 4 n h
+
+pub encode-more : (n : ℕ) → n ≤ largest → 128 ≤ n → encode n ≡ (128 + n % 128) ∷ encode (n / 128)
+unfolding encode
+encode-more n h more =
+    groups-more 3 n more ∙ ap (λ bs. (128 + n % 128) ∷ bs) (sym (groups-enough 3 (n / 128) (omega arith)))
 
 pub encode-each : (P : ℕ → List ℕ → Type 0)
     → ((n : ℕ) → n < 128 → P n (n ∷ []))
@@ -53,17 +81,13 @@ length-encode n = length-groups 4 n
 
 -- span
 
-pub one-more-suc : (k : ℕ) → 0 < k → one-more k ≡ suc k
+one-more-suc : (k : ℕ) → 0 < k → one-more k ≡ suc k
 one-more-suc zero h = omega arith
 one-more-suc (suc k) h = refl
 
-pub one-more-some : (k : ℕ) → 0 < one-more k → 0 < k
-one-more-some zero h = omega arith
-one-more-some (suc k) h = omega arith
-
-pub one-more-le : (k m : ℕ) → k ≤ m → one-more k ≤ suc m
-one-more-le zero m h = omega arith
-one-more-le (suc k) m h = omega arith
+one-more-back : (m k : ℕ) → one-more m ≡ suc k → (0 < k) × (m ≡ k)
+one-more-back zero k e = absurd (omega arith)
+one-more-back (suc m) k e = (omega arith, omega arith)
 
 pub span-last : (b : ℕ) (bs : List ℕ) → b < 128 → span (b ∷ bs) ≡ 1
 span-last b bs h = cond-true (ltb b 128) 1 (one-more (span bs)) (lt-ltb b 128 h)
@@ -75,31 +99,50 @@ pub span-suc : (b : ℕ) (bs : List ℕ) → 128 ≤ b → 0 < span bs → span 
 span-suc b bs h some = span-more b bs h ∙ one-more-suc (span bs) some
 
 -- the first byte is the last one, or bytes that have a last one follow it
-pub span-cases : (b : ℕ) (bs : List ℕ) → 0 < span (b ∷ bs)
-    → ((b < 128) × (span (b ∷ bs) ≡ 1)) ⊎ ((128 ≤ b) × (0 < span bs) × (span (b ∷ bs) ≡ suc (span bs)))
-span-cases b bs h =
-    ⊎-elim (λ less. inl (less, span-last b bs less))
-    (λ more. let some = one-more-some (span bs) (subst (λ (k : ℕ). 0 < k) (span-more b bs more) h)
-    in inr (more, some, span-suc b bs more some))
+span-back : (b : ℕ) (bs : List ℕ) (k : ℕ) → span (b ∷ bs) ≡ suc k
+    → ((b < 128) × (k ≡ 0)) ⊎ ((128 ≤ b) × (0 < k) × (span bs ≡ k))
+span-back b bs k e =
+    ⊎-elim
+    (λ less. inl (less, omega (arith, span-last b bs less)))
+    (λ more. let back = one-more-back (span bs) k (sym (span-more b bs more) ∙ e)
+    in inr (more, back .0, back .1))
     (cases-lt b 128)
 
+-- what holds of a last byte, and with each byte before it, holds of every string with its last byte at k
+pub span-each : (P : ℕ → List ℕ → Type 0)
+    → ((b : ℕ) (bs : List ℕ) → b < 128 → P 0 (b ∷ bs))
+    → ((b : ℕ) (bs : List ℕ) (k : ℕ) → 128 ≤ b → span bs ≡ suc k → P k bs → P (suc k) (b ∷ bs))
+    → (k : ℕ) (bs : List ℕ) → span bs ≡ suc k → P k bs
+span-each P last more k [] e = absurd (omega arith)
+span-each P last more zero (b ∷ bs) e =
+    ⊎-elim (λ one. last b bs (one .0)) (λ many. absurd (omega (arith, many .1))) (span-back b bs 0 e)
+span-each P last more (suc k) (b ∷ bs) e =
+    ⊎-elim
+    (λ one. absurd (omega (arith, one .1)))
+    (λ many. more b bs k (many .0) (many .2) (span-each P last more k bs (many .2)))
+    (span-back b bs (suc k) e)
+
 pub span-length : (bs : List ℕ) → span bs ≤ length bs
-span-length [] = omega arith
-span-length (b ∷ bs) =
-    cond-both (ltb b 128) 1 (one-more (span bs)) (λ k. k ≤ suc (length bs))
-    (λ _. omega arith)
-    (λ _. one-more-le (span bs) (length bs) (span-length bs))
+span-length bs =
+    ⊎-elim
+    (λ none. omega arith)
+    (λ some. omega (
+      arith,
+      span-each (λ k xs. suc k ≤ length xs) (λ b xs h. omega arith) (λ b xs k h e l. omega arith)
+          (span bs - 1) bs (omega arith),
+    ))
+    (cases-lt (span bs) 1)
 
 pub span-take : (bs rest : List ℕ) → 0 < span bs → span (take (span bs) bs ++ rest) ≡ span bs
-span-take [] rest h = omega arith
-span-take (b ∷ bs) rest h =
-    ⊎-elim
-    (λ one. rw (one .1) (span-last b rest (one .0)))
-    (λ more. let e = span-take bs rest (more .1)
-    in rw (more .2) (span-suc b (take (span bs) bs ++ rest) (more .0) (omega (arith, e, more .1)) ∙ ap suc e))
-    (span-cases b bs h)
+span-take bs rest h =
+    let e : suc (span bs - 1) ≡ span bs = omega arith
+    in let P : ℕ → List ℕ → Type 0 = λ k xs. span (take (suc k) xs ++ rest) ≡ suc k
+    in subst (λ m. span (take m bs ++ rest) ≡ m) e
+    (span-each P (λ b xs l. span-last b rest l)
+    (λ b xs k l e is. span-suc b (take (suc k) xs ++ rest) l (omega arith) ∙ ap suc is)
+    (span bs - 1) bs (sym e))
 
-pub span-encode : (n : ℕ) (rest : List ℕ) → n ≤ largest → span (encode n ++ rest) ≡ length (encode n)
+span-encode : (n : ℕ) (rest : List ℕ) → n ≤ largest → span (encode n ++ rest) ≡ length (encode n)
 span-encode n rest h =
     encode-each (λ _ bs. (0 < length bs) × (span (bs ++ rest) ≡ length bs))
     (λ n less. (omega arith, span-last n rest less))
@@ -110,7 +153,7 @@ span-encode n rest h =
 
 -- same
 
-pub same-refl : (bs : List ℕ) → same bs bs ≡ true
+same-refl : (bs : List ℕ) → same bs bs ≡ true
 same-refl [] = refl
 same-refl (b ∷ bs) = and-from (eqb b b) (same bs bs) (eq-eqb b b refl) (same-refl bs)
 
@@ -126,7 +169,7 @@ same-true (x ∷ xs) (y ∷ ys) h =
 
 -- value
 
-pub value-encode : (n : ℕ) → n ≤ largest → value (encode n) ≡ n
+value-encode : (n : ℕ) → n ≤ largest → value (encode n) ≡ n
 value-encode = encode-each (λ n bs. value bs ≡ n) (λ n h. omega arith) (λ n bs h e. omega arith)
 
 -- judged
@@ -177,15 +220,15 @@ unfolding decode
 decode-some bs h = spanned-some (span bs) bs h
 
 -- a string that does not end early has a last byte
-pub some-from-decode : (bs : List ℕ) → (decode bs ≡ ends-early → ⊥) → 0 < span bs
+some-from-decode : (bs : List ℕ) → (decode bs ≡ ends-early → ⊥) → 0 < span bs
 some-from-decode bs late =
     ⊎-elim (λ none. absurd (late (decode-none bs (omega arith)))) (λ some. some) (cases-lt (span bs) 1)
 
-pub some-from-decoded : (bs : List ℕ) (n k : ℕ) → decode bs ≡ decoded n k → 0 < span bs
+some-from-decoded : (bs : List ℕ) (n k : ℕ) → decode bs ≡ decoded n k → 0 < span bs
 some-from-decoded bs n k h =
     some-from-decode bs (λ e. let z : _≡_ {A = ℕ} 0 1 = cc in omega arith)
 
-pub some-from-malformed : (bs : List ℕ) → decode bs ≡ malformed → 0 < span bs
+some-from-malformed : (bs : List ℕ) → decode bs ≡ malformed → 0 < span bs
 some-from-malformed bs h =
     some-from-decode bs (λ e. let z : _≡_ {A = ℕ} 0 1 = cc in omega arith)
 
@@ -193,7 +236,7 @@ pub length-span : (bs : List ℕ) → length (take (span bs) bs) ≡ span bs
 length-span bs = length-take-le (span bs) bs (span-length bs)
 
 -- what stands behind the first number does not matter
-pub decode-take : (bs rest : List ℕ) → 0 < span bs → decode (take (span bs) bs ++ rest) ≡ decode bs
+decode-take : (bs rest : List ℕ) → 0 < span bs → decode (take (span bs) bs ++ rest) ≡ decode bs
 decode-take bs rest h =
     let e = span-take bs rest h
     in let front = take-at (take (span bs) bs) rest (span bs) (length-span bs)

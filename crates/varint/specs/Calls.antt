@@ -22,8 +22,11 @@ answer (decoded n k) = Ok (record { value = n; length = k })
 abbrev pub placed : List ℕ → ℕ → List ℕ → List ℕ
 placed buffer at bytes = take at buffer ++ (bytes ++ drop (at + length bytes) buffer)
 
--- n was written at the place at, its length answered; or there was no room for it, and the buffer is as it was
+-- n was written at the place at, its length answered; or there was no room for it,
+-- and the buffer is as it was
 abbrev pub Written : ℕ → ℕ → List ℕ → Result ℕ NoRoom → List ℕ → Type 0
 Written n at before (Ok k) after =
-    (at + length (encode n) ≤ length before) × (k ≡ length (encode n)) × (after ≡ placed before at (encode n))
+    (at + length (encode n) ≤ length before)
+    × (k ≡ length (encode n))
+    × (after ≡ placed before at (encode n))
 Written n at before (Err _) after = (length before < at + length (encode n)) × (after ≡ before)

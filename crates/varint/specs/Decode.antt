@@ -1,5 +1,6 @@
 -- What the front of a byte string says as a number. Assumes nothing.
---     span bytes      how many bytes the first number takes, up to and with the first byte below 128; 0 where there is none
+--     span bytes      how many bytes the first number takes, up to and with the first byte below 128;
+--                     0 where there is none
 --     value bytes     the number that the groups of bytes make, the lowest first
 --     decode bytes    the first number and its length, or why there is none
 use mathlib.Core.Bool.{Bool, true, false, cond, _&&_}
@@ -9,7 +10,8 @@ use lib.Dec.{ltb, leb, eqb}
 use lib.ListN.{length, take}
 use Rattle.varint.specs.Encode.{encode, largest}
 
--- the first number of a byte string: it has no last byte, it is not as it would be written, or it is a value in so many bytes
+-- the first number of a byte string: it has no last byte, it is not as it would be written,
+-- or it is a value in so many bytes
 pub data Decoded : Type 0 where
   ends-early : Decoded
   malformed : Decoded
@@ -40,7 +42,8 @@ same (b ∷ bs) (c ∷ cs) = eqb b c && same bs cs
 -- a number is in order if it has at most 32 bits and stands as it is written, which is its shortest form
 abbrev pub judged : List ℕ → Decoded
 judged bytes =
-    cond (leb (value bytes) largest && same (encode (value bytes)) bytes) (decoded (value bytes) (length bytes)) malformed
+    cond (leb (value bytes) largest && same (encode (value bytes)) bytes)
+    (decoded (value bytes) (length bytes)) malformed
 
 -- the first number of bs, which takes so many bytes
 abbrev pub spanned : ℕ → List ℕ → Decoded

@@ -8,11 +8,13 @@ use Rattle.varint.specs.Decode.{decode, decoded}
 
 -- reading what was written gives the number and its length, whatever stands behind
 abbrev pub Written-is-read : Type 0
-Written-is-read = (n : ℕ) (rest : List ℕ) → n ≤ largest → decode (encode n ++ rest) ≡ decoded n (length (encode n))
+Written-is-read = (n : ℕ) (rest : List ℕ) → n ≤ largest
+    → decode (encode n ++ rest) ≡ decoded n (length (encode n))
 
 -- what is read as n is what is written for n: no two byte strings are the same number
 abbrev pub Only-one-form : Type 0
-Only-one-form = (bytes : List ℕ) (n k : ℕ) → decode bytes ≡ decoded n k → (n ≤ largest) × (take k bytes ≡ encode n)
+Only-one-form = (bytes : List ℕ) (n k : ℕ) → decode bytes ≡ decoded n k
+    → (n ≤ largest) × (take k bytes ≡ encode n)
 
 -- every number of 32 bits is written, in one to five bytes
 abbrev pub Every-number-written : Type 0

@@ -6,6 +6,12 @@ pub const MOST_BYTES: usize = 5;
 /// The largest number that can be written.
 pub const LARGEST: u64 = 4_294_967_295;
 
+/// How many values a group of seven bits has.
+pub(crate) const GROUP: u32 = 128;
+
+/// The top bit of a byte, which is set where another byte follows.
+pub(crate) const MORE: u8 = 128;
+
 /// A number that was read, and how many bytes it takes.
 #[derive(Clone, Copy)]
 pub struct Number {

@@ -1,0 +1,13 @@
+//! Sets of variables.
+ghost use mathlib.Core.Path.{_≡_};
+ghost use lib.ListN.{length};
+
+/// How many variables there are.
+pub(crate) const VARIABLES: usize = 16;
+
+/// A set of variables: which of them are members.
+#[derive(Clone, Copy)]
+pub(crate) struct VariableSet {
+    pub(crate) members: [bool; 16],
+    ghost full: { length members ≡ 16 },
+}
