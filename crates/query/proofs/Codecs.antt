@@ -54,13 +54,13 @@ pub code-coded : (code : ℕ) → code-of (coded code) ≡ code
 code-coded code =
     ⊎-elim
     (λ e. let odd = eqb-true (code % 2) 1 e in
-      let back : 2 * (code / 2) + 1 ≡ code = omega arith in
-      ap (λ b. code-of (cond b (Variable (code / 2)) (Term (code / 2)))) e ∙ back)
+    let back : 2 * (code / 2) + 1 ≡ code = omega arith in
+    ap (λ b. code-of (cond b (Variable (code / 2)) (Term (code / 2)))) e ∙ back)
     (λ e. let even = eqb-false (code % 2) 1 e in
-      let rest : code % 2 < 2 = omega arith in
-      let none : code % 2 ≡ 0 = omega arith in
-      let back : 2 * (code / 2) ≡ code = omega arith in
-      ap (λ b. code-of (cond b (Variable (code / 2)) (Term (code / 2)))) e ∙ back)
+    let rest : code % 2 < 2 = omega arith in
+    let none : code % 2 ≡ 0 = omega arith in
+    let back : 2 * (code / 2) ≡ code = omega arith in
+    ap (λ b. code-of (cond b (Variable (code / 2)) (Term (code / 2)))) e ∙ back)
     (cases-bool (eqb (code % 2) 1))
 
 code-small : (p : Place) → lawful-place p ≡ true → code-of p ≤ largest
@@ -72,7 +72,7 @@ place-codec =
     role-codec PlaceCode place-from code-of (λ p. lawful-place p ≡ true)
     (λ p h. (ap (λ x. when (lawful-place x) x) (coded-code p) ∙ ap (λ b. when b p) h, code-small p h))
     (λ n p l e. let w = when-some (lawful-place (coded n)) (coded n) p e in
-      (subst (λ x. lawful-place x ≡ true) (sym (w .1)) (w .0), ap code-of (w .1) ∙ code-coded n))
+    (subst (λ x. lawful-place x ≡ true) (sym (w .1)) (w .0), ap code-of (w .1) ∙ code-coded n))
 
 -- triple
 
@@ -100,11 +100,11 @@ triple-codec =
     (λ t. (lawful-place (t .subject) ≡ true) × ((lawful-place (t .property) ≡ true) × (lawful-place (t .object) ≡ true)))
     (λ t. lawful-triple t ≡ true) triple-parts triple-from-parts
     (both-codec {B = Place × Place} {C = TriplePattern} place (λ _. both place (λ _. place) (λ p o. (p, o)))
-      (λ s po. record { subject = s; property = po .0; object = po .1 })
-      place-bytes (λ p. lawful-place p ≡ true) place-codec
-      (λ x. place-bytes (x .0) ++ place-bytes (x .1)) (λ _ x. (lawful-place (x .0) ≡ true) × (lawful-place (x .1) ≡ true))
-      (λ _ _. place-pair-codec)
-      (λ t. t .subject) (λ t. (t .property, t .object)) (λ t. refl) (λ a b _. (refl, refl)))
+    (λ s po. record { subject = s; property = po .0; object = po .1 })
+    place-bytes (λ p. lawful-place p ≡ true) place-codec
+    (λ x. place-bytes (x .0) ++ place-bytes (x .1)) (λ _ x. (lawful-place (x .0) ≡ true) × (lawful-place (x .1) ≡ true))
+    (λ _ _. place-pair-codec)
+    (λ t. t .subject) (λ t. (t .property, t .object)) (λ t. refl) (λ a b _. (refl, refl)))
 
 -- operands
 
@@ -133,14 +133,26 @@ module _ {A : Type 0} (p : Reader A) (enc : A → List ℕ) (ok : A → Bool) (c
   two-only : {B : Type 0} (c : A → A → B) (at : ℕ) (bs : List ℕ) (x : B) (after : ℕ) (rest : List ℕ)
       → both p (λ _. p) c at bs ≡ took x after rest
       → (a : A) × ((b : A) × ((x ≡ c a b) × (((ok a && ok b) ≡ true)
-        × ((bs ≡ (enc a ++ enc b) ++ rest) × (after ≡ at + length (enc a ++ enc b))))))
+      × ((bs ≡ (enc a ++ enc b) ++ rest) × (after ≡ at + length (enc a ++ enc b))))))
   two-only c at bs x after rest t =
       let s = both-took p (λ _. p) c at bs x after rest t in
       let f = codec .only at bs (s .first) (s .middle) (s .between) (s .first-took) in
-      let g = codec .only (s .middle) (s .between) (s .second) after rest (s .second-took) in
-      (s .first, (s .second, (s .made, (and-from _ _ (f .0) (g .0),
-        (f .1 ∙ ap (λ l. enc (s .first) ++ l) (g .1) ∙ sym (append-assoc (enc (s .first)) (enc (s .second)) rest),
-          omega (arith, f .2, g .2, length-append (enc (s .first)) (enc (s .second))))))))
+      let g = codec .only (s .middle) (s .between) (s .second) after rest (s .second-took) in (
+        s .first,
+        (
+          s .second,
+          (
+            s .made,
+            (
+              and-from _ _ (f .0) (g .0),
+              (
+                f .1 ∙ ap (λ l. enc (s .first) ++ l) (g .1) ∙ sym (append-assoc (enc (s .first)) (enc (s .second)) rest),
+                omega (arith, f .2, g .2, length-append (enc (s .first)) (enc (s .second))),
+              ),
+            ),
+          ),
+        ),
+      )
 
   two-back : {B : Type 0} (c : A → A → B) (a b : A) (at : ℕ) (rest : List ℕ) → (ok a && ok b) ≡ true
       → both p (λ _. p) c at ((enc a ++ enc b) ++ rest) ≡ took (c a b) (at + length (enc a ++ enc b)) rest
@@ -194,10 +206,10 @@ operands-stops i small kind.Equal = two-stops place place-bytes lawful-place pla
 operands-stops i small kind.Less = two-stops place place-bytes lawful-place place-codec (λ a b. Less a b)
 operands-stops i small kind.Bound =
     λ at bs r q t h. one-stops variable (λ v. Bound v) at bs r q
-      (variable-codec .stops at bs r q (one-refused variable (λ v. Bound v) at bs r q t) h)
+    (variable-codec .stops at bs r q (one-refused variable (λ v. Bound v) at bs r q t) h)
 operands-stops i small kind.Not =
     λ at bs r q t h. one-stops (lower i) (λ a. Not a) at bs r q
-      (lower-codec i small .stops at bs r q (one-refused (lower i) (λ a. Not a) at bs r q t) h)
+    (lower-codec i small .stops at bs r q (one-refused (lower i) (λ a. Not a) at bs r q t) h)
 operands-stops i small kind.And = two-stops (lower i) encode (λ a. ltb a i) (lower-codec i small) (λ a b. And a b)
 operands-stops i small kind.Or = two-stops (lower i) encode (λ a. ltb a i) (lower-codec i small) (λ a b. Or a b)
 
@@ -234,8 +246,8 @@ kind-found [] n k e = let z : _≡_ {A = ℕ} 0 1 = cc in absurd (omega arith)
 kind-found (j ∷ ks) n k e =
     ⊎-elim
     (λ t. let same : Some j ≡ Some k = sym (ap (λ b. cond b (Some j) (kind-among ks n)) t) ∙ e in
-      let found : j ≡ k = cc in
-      ap number-of (sym found) ∙ eqb-true (number-of j) n t)
+    let found : j ≡ k = cc in
+    ap number-of (sym found) ∙ eqb-true (number-of j) n t)
     (λ t. kind-found ks n k (sym (ap (λ b. cond b (Some j) (kind-among ks n)) t) ∙ e))
     (cases-bool (eqb (number-of j) n))
 
@@ -249,6 +261,6 @@ node-codec i small =
     codec-like (λ n. Unit {0} × ((kind-of n ≡ kind-of n) × (lawful-node i n ≡ true))) (λ n. lawful-node i n ≡ true)
     (λ n h. (tt, (refl, h))) (λ n h. h .1 .1)
     (both-codec (role NodeInvalid kind-from) (operands i) (λ _ n. n)
-      (λ k. encode (number-of k)) (λ _. Unit {0}) kind-codec
-      operand-bytes (λ k n. (kind-of n ≡ k) × (lawful-node i n ≡ true)) (λ k _. operands-codec i small k)
-      kind-of (λ n. n) (λ n. refl) (λ k n h. (h .0, refl)))
+    (λ k. encode (number-of k)) (λ _. Unit {0}) kind-codec
+    operand-bytes (λ k n. (kind-of n ≡ k) × (lawful-node i n ≡ true)) (λ k _. operands-codec i small k)
+    kind-of (λ n. n) (λ n. refl) (λ k n h. (h .0, refl)))

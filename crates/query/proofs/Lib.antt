@@ -1,6 +1,7 @@
 -- Read in this order.
 pub mod Lawful  -- laws of tests over lists
 pub mod Readers  -- laws of one number and what it stands for
+pub mod Numbers  -- a number read at a place
 pub mod Sequences  -- laws of parts read one behind the other
 pub mod Codecs  -- places, triples and nodes, each with its writing
 pub mod Parts  -- lists, blocks and alternatives, each with its writing

@@ -53,17 +53,20 @@ triples-codec low used =
     codec-like
     (λ ts. (within low (room used) (length ts) ≡ true) × ((length ts ≡ length ts) × Each (λ (_ : ℕ) t. lawful-triple t ≡ true) (λ i _. i + 1) 0 ts))
     (Triples low used)
-    (λ ts h. let w = and-parts (within low most-in-part (length ts)) (every lawful-triple ts) (h .0) in
-      (within-from low (room used) (length ts) (within-low low most-in-part (length ts) (w .0))
-        (omega (arith, within-high low most-in-part (length ts) (w .0), h .1)),
-        (refl, every-each 0 ts (w .1))))
-    (λ ts h. (and-from _ _
-        (within-from low most-in-part (length ts) (within-low low (room used) (length ts) (h .0))
+    (λ ts h. let w = and-parts (within low most-in-part (length ts)) (every lawful-triple ts) (h .0) in (
+      within-from low (room used) (length ts) (within-low low most-in-part (length ts) (w .0))
+          (omega (arith, within-high low most-in-part (length ts) (w .0), h .1)),
+      (refl, every-each 0 ts (w .1)),
+    ))
+    (λ ts h. (
+      and-from _ _
+          (within-from low most-in-part (length ts) (within-low low (room used) (length ts) (h .0))
           (omega (arith, within-high low (room used) (length ts) (h .0))))
-        (each-every 0 ts (h .1 .1)),
-      omega (arith, within-high low (room used) (length ts) (h .0))))
+          (each-every 0 ts (h .1 .1)),
+      omega (arith, within-high low (room used) (length ts) (h .0)),
+    ))
     (series-codec (λ (_ : ℕ). triple) (λ i _. i + 1) triple-bytes (λ _ t. lawful-triple t ≡ true) (λ _ _. Unit {0})
-      (λ _ _ _ _ _. tt) (λ _ _ _. triple-codec) low (room used) (room-small used) 0 (λ _ _. tt))
+    (λ _ _ _ _ _. tt) (λ _ _ _. triple-codec) low (room used) (room-small used) 0 (λ _ _. tt))
 
 -- filter
 
@@ -84,15 +87,17 @@ filter-codec used =
     codec-like
     (λ ns. (within 0 (room used) (length ns) ≡ true) × ((length ns ≡ length ns) × Each (λ i n. lawful-node i n ≡ true) (λ i _. i + 1) 0 ns))
     (Nodes used)
-    (λ ns h. let w = and-parts (within 0 most-in-part (length ns)) (lawful-nodes 0 ns) (h .0) in
-      (within-from 0 (room used) (length ns) (omega arith) (omega (arith, within-high 0 most-in-part (length ns) (w .0), h .1)),
-        (refl, nodes-each 0 ns (w .1))))
-    (λ ns h. let short = within-high 0 (room used) (length ns) (h .0) in
-      (and-from _ _ (within-from 0 most-in-part (length ns) (omega arith) (omega (arith, short))) (each-nodes 0 ns (h .1 .1)),
-        omega (arith, short)))
+    (λ ns h. let w = and-parts (within 0 most-in-part (length ns)) (lawful-nodes 0 ns) (h .0) in (
+      within-from 0 (room used) (length ns) (omega arith) (omega (arith, within-high 0 most-in-part (length ns) (w .0), h .1)),
+      (refl, nodes-each 0 ns (w .1)),
+    ))
+    (λ ns h. let short = within-high 0 (room used) (length ns) (h .0) in (
+      and-from _ _ (within-from 0 most-in-part (length ns) (omega arith) (omega (arith, short))) (each-nodes 0 ns (h .1 .1)),
+      omega (arith, short),
+    ))
     (series-codec node (λ i _. i + 1) node-bytes (λ i n. lawful-node i n ≡ true) (λ n i. i + n ≤ largest)
-      (λ n i _ good _. omega arith) (λ n i good. node-codec i (omega arith)) 0 (room used) (room-small used) 0
-      (λ n short. omega (arith, room-small used)))
+    (λ n i _ good _. omega arith) (λ n i good. node-codec i (omega arith)) 0 (room used) (room-small used) 0
+    (λ n short. omega (arith, room-small used)))
 
 -- totals
 
@@ -121,9 +126,10 @@ module _ {A : Type 0} (ok : A → Bool) (triples-of nodes-of : A → ℕ) where
       → Each (λ u a. (ok a ≡ true) × Room u (triples-of a) (nodes-of a)) more u xs
   each-of-all u [] h r = tt
   each-of-all u (x ∷ xs) h r =
-      let w = and-parts (ok x) (every ok xs) h in
-      ((w .0, (omega (arith, r .0), omega (arith, r .1))),
-        each-of-all (more u x) xs (w .1) (omega (arith, r .0), omega (arith, r .1)))
+      let w = and-parts (ok x) (every ok xs) h in (
+        (w .0, (omega (arith, r .0), omega (arith, r .1))),
+        each-of-all (more u x) xs (w .1) (omega (arith, r .0), omega (arith, r .1)),
+      )
 
 -- blocks
 
@@ -135,12 +141,12 @@ block-codec : (u : Used) → Fits u → Codec (block u) part-bytes (Block-ok u)
 block-codec u f =
     codec-like (λ b. Triples 1 (u .triples) (b .triples) × Nodes (u .nodes) (b .filter)) (Block-ok u)
     (λ b h. let w = and-parts (lawful-triples 1 (b .triples)) (lawful-filter (b .filter)) (h .0) in
-      ((w .0, omega (arith, h .1 .0)), (w .1, omega (arith, h .1 .1))))
+    ((w .0, omega (arith, h .1 .0)), (w .1, omega (arith, h .1 .1))))
     (λ b h. (and-from _ _ (h .0 .0) (h .1 .0), (omega (arith, h .0 .1, f .0), omega (arith, h .1 .1, f .1))))
     (both-codec {C = Part} (triples 1 (u .triples)) (λ _. filter (u .nodes)) (λ ts ns. record { triples = ts; filter = ns })
-      (counted triple-bytes) (Triples 1 (u .triples)) (triples-codec 1 (u .triples))
-      (counted node-bytes) (λ _. Nodes (u .nodes)) (λ _ _. filter-codec (u .nodes))
-      (λ b. b .triples) (λ b. b .filter) (λ b. refl) (λ a b _. (refl, refl)))
+    (counted triple-bytes) (Triples 1 (u .triples)) (triples-codec 1 (u .triples))
+    (counted node-bytes) (λ _. Nodes (u .nodes)) (λ _ _. filter-codec (u .nodes))
+    (λ b. b .triples) (λ b. b .filter) (λ b. refl) (λ a b _. (refl, refl)))
 
 -- the blocks of an alternative with room for them
 abbrev Blocks-ok : Used → List Part → Type 0
@@ -156,7 +162,7 @@ blocks-codec u f =
     (λ bs h. (h .0, (refl, each-of-all lawful-part (λ b. length (b .triples)) (λ b. length (b .filter)) u bs (h .1 .0) (h .1 .1))))
     (λ bs h. (h .0, all-of-each lawful-part (λ b. length (b .triples)) (λ b. length (b .filter)) u bs f (h .1 .1)))
     (series-codec block with-part part-bytes Block-ok (λ _ u. Fits u) (λ n u b _ ok. ok .1) (λ _ u good. block-codec u good)
-      0 most-blocks (omega arith) u (λ _ _. f))
+    0 most-blocks (omega arith) u (λ _ _. f))
 
 -- alternatives
 
@@ -167,8 +173,8 @@ Group-ok u g = (lawful-group g ≡ true) × Room u (triples-in g) (nodes-in g)
 -- what follows the required triples
 tail-codec : (u : Used) (n : ℕ) → Fits (with-triples u n)
     → Codec (both {C = List Part × List Node} (blocks (with-triples u n)) (λ bs. filter (nodes-after u bs)) (λ bs ns. (bs, ns)))
-      (λ x. counted part-bytes (x .0) ++ counted node-bytes (x .1))
-      (λ x. Blocks-ok (with-triples u n) (x .0) × Nodes (nodes-after u (x .0)) (x .1))
+    (λ x. counted part-bytes (x .0) ++ counted node-bytes (x .1))
+    (λ x. Blocks-ok (with-triples u n) (x .0) × Nodes (nodes-after u (x .0)) (x .1))
 tail-codec u n f =
     both-codec (blocks (with-triples u n)) (λ bs. filter (nodes-after u bs)) (λ bs ns. (bs, ns))
     (counted part-bytes) (Blocks-ok (with-triples u n)) (blocks-codec (with-triples u n) f)
@@ -184,28 +190,30 @@ Group-parts u g =
 group-parts : (u : Used) (g : Group) → Group-ok u g → Group-parts u g
 group-parts u g h =
     let a = and-parts (lawful-triples 0 (g .required))
-      (within 0 most-blocks (length (g .blocks)) && (every lawful-part (g .blocks) && lawful-filter (g .filter))) (h .0) in
+    (within 0 most-blocks (length (g .blocks)) && (every lawful-part (g .blocks) && lawful-filter (g .filter))) (h .0) in
     let b = and-parts (within 0 most-blocks (length (g .blocks))) (every lawful-part (g .blocks) && lawful-filter (g .filter)) (a .1) in
-    let c = and-parts (every lawful-part (g .blocks)) (lawful-filter (g .filter)) (b .1) in
-    ((a .0, omega (arith, h .1 .0)),
-      ((b .0, (c .0, (omega (arith, h .1 .0), omega (arith, h .1 .1)))), (c .1, omega (arith, h .1 .1))))
+    let c = and-parts (every lawful-part (g .blocks)) (lawful-filter (g .filter)) (b .1) in (
+      (a .0, omega (arith, h .1 .0)),
+      ((b .0, (c .0, (omega (arith, h .1 .0), omega (arith, h .1 .1)))), (c .1, omega (arith, h .1 .1))),
+    )
 
 group-from-parts : (u : Used) → Fits u → (g : Group) → Group-parts u g → Group-ok u g
-group-from-parts u f g h =
-    (and-from _ _ (h .0 .0) (and-from _ _ (h .1 .0 .0) (and-from _ _ (h .1 .0 .1 .0) (h .1 .1 .0))),
-      (omega (arith, h .1 .0 .1 .1 .0), omega (arith, h .1 .0 .1 .1 .1, h .1 .1 .1)))
+group-from-parts u f g h = (
+  and-from _ _ (h .0 .0) (and-from _ _ (h .1 .0 .0) (and-from _ _ (h .1 .0 .1 .0) (h .1 .1 .0))),
+  (omega (arith, h .1 .0 .1 .1 .0), omega (arith, h .1 .0 .1 .1 .1, h .1 .1 .1)),
+)
 
 alternative-codec : (u : Used) → Fits u → Codec (alternative u) group-bytes (Group-ok u)
 alternative-codec u f =
     codec-like (Group-parts u) (Group-ok u) (group-parts u) (group-from-parts u f)
     (both-codec {B = List Part × List Node} {C = Group} (triples 0 (u .triples))
-      (λ ts. both (blocks (with-triples u (length ts))) (λ bs. filter (nodes-after u bs)) (λ bs ns. (bs, ns)))
-      (λ ts rest. record { required = ts; blocks = rest .0; filter = rest .1 })
-      (counted triple-bytes) (Triples 0 (u .triples)) (triples-codec 0 (u .triples))
-      (λ x. counted part-bytes (x .0) ++ counted node-bytes (x .1))
-      (λ ts x. Blocks-ok (with-triples u (length ts)) (x .0) × Nodes (nodes-after u (x .0)) (x .1))
-      (λ ts ok. tail-codec u (length ts) (omega (arith, ok .1, f .0), f .1))
-      (λ g. g .required) (λ g. (g .blocks, g .filter)) (λ g. refl) (λ a b _. (refl, refl)))
+    (λ ts. both (blocks (with-triples u (length ts))) (λ bs. filter (nodes-after u bs)) (λ bs ns. (bs, ns)))
+    (λ ts rest. record { required = ts; blocks = rest .0; filter = rest .1 })
+    (counted triple-bytes) (Triples 0 (u .triples)) (triples-codec 0 (u .triples))
+    (λ x. counted part-bytes (x .0) ++ counted node-bytes (x .1))
+    (λ ts x. Blocks-ok (with-triples u (length ts)) (x .0) × Nodes (nodes-after u (x .0)) (x .1))
+    (λ ts ok. tail-codec u (length ts) (omega (arith, ok .1, f .0), f .1))
+    (λ g. g .required) (λ g. (g .blocks, g .filter)) (λ g. refl) (λ a b _. (refl, refl)))
 
 -- nothing is used yet
 abbrev unused : Used
@@ -219,20 +227,25 @@ groups-limited : (q : List Group) → Groups-ok q → limited q ≡ true
 groups-limited q h =
     let a = all-of-each lawful-group triples-in nodes-in unused q (omega arith, omega arith) (h .1 .1) in
     and-from _ _ (h .0) (and-from _ _ (a .0)
-      (and-from _ _ (le-leb (total triples-in q) most-in-all (omega (arith, a .1 .0)))
-        (le-leb (total nodes-in q) most-in-all (omega (arith, a .1 .1)))))
+    (and-from _ _ (le-leb (total triples-in q) most-in-all (omega (arith, a .1 .0)))
+    (le-leb (total nodes-in q) most-in-all (omega (arith, a .1 .1)))))
 
 limited-groups : (q : List Group) → limited q ≡ true → Groups-ok q
 limited-groups q h =
     let a = and-parts (within 1 most-alternatives (length q))
-      (every lawful-group q && (leb (total triples-in q) most-in-all && leb (total nodes-in q) most-in-all)) h in
+    (every lawful-group q && (leb (total triples-in q) most-in-all && leb (total nodes-in q) most-in-all)) h in
     let b = and-parts (every lawful-group q) (leb (total triples-in q) most-in-all && leb (total nodes-in q) most-in-all) (a .1) in
-    let c = and-parts (leb (total triples-in q) most-in-all) (leb (total nodes-in q) most-in-all) (b .1) in
-    (a .0, (refl, each-of-all lawful-group triples-in nodes-in unused q (b .0)
-      (omega (arith, leb-true (total triples-in q) most-in-all (c .0)), omega (arith, leb-true (total nodes-in q) most-in-all (c .1)))))
+    let c = and-parts (leb (total triples-in q) most-in-all) (leb (total nodes-in q) most-in-all) (b .1) in (
+      a .0,
+      (
+        refl,
+        each-of-all lawful-group triples-in nodes-in unused q (b .0)
+            (omega (arith, leb-true (total triples-in q) most-in-all (c .0)), omega (arith, leb-true (total nodes-in q) most-in-all (c .1))),
+      ),
+    )
 
 pub alternatives-codec : Codec alternatives bytes-of (λ q. limited q ≡ true)
 alternatives-codec =
     codec-like Groups-ok (λ q. limited q ≡ true) limited-groups groups-limited
     (series-codec alternative with-group group-bytes Group-ok (λ _ u. Fits u) (λ n u g _ ok. ok .1)
-      (λ _ u good. alternative-codec u good) 1 most-alternatives (omega arith) unused (λ _ _. (omega arith, omega arith)))
+    (λ _ u good. alternative-codec u good) 1 most-alternatives (omega arith) unused (λ _ _. (omega arith, omega arith)))

@@ -76,9 +76,11 @@ number-at at bs (decoded n k) a after rest e t =
     let law = encode-decode bs n k e in
     let same : n ≡ a = cc in
     let behind : drop k bs ≡ rest = cc in
-    let place : at + k ≡ after = cc in
-    (subst (λ m. m ≤ largest) same (law .0), law .1 ∙ ap (λ m. encode m ++ drop k bs) same ∙ ap (λ l. encode a ++ l) behind,
-      sym place ∙ ap (λ m. at + m) (law .2) ∙ ap (λ m. at + length (encode m)) same)
+    let place : at + k ≡ after = cc in (
+      subst (λ m. m ≤ largest) same (law .0),
+      law .1 ∙ ap (λ m. encode m ++ drop k bs) same ∙ ap (λ l. encode a ++ l) behind,
+      sym place ∙ ap (λ m. at + m) (law .2) ∙ ap (λ m. at + length (encode m)) same,
+    )
 
 number-stops : (at : ℕ) (bs : List ℕ) (d : Decoded) (r : Refusal) (q : ℕ) → decode bs ≡ d → numbered at bs d ≡ refused r q
     → by-number r ≡ true → Stops number at bs r q
@@ -145,9 +147,11 @@ module _ {A : Type 0} (why : Refusal) (f : ℕ → Option A) (g : A → ℕ) (Ok
       let s = next-took (number at bs) (λ n mid more. meant why at (f n) mid more) a after rest t in
       let law = number-codec .only at bs (s .value) (s .at) (s .bytes) (s .was) in
       let m = meant-took at (f (s .value)) (s .at) (s .bytes) a after rest (s .gives) in
-      let h = home (s .value) a (law .0) (m .0) in
-      (h .0, law .1 ∙ ap (λ n. encode n ++ s .bytes) (sym (h .1)) ∙ ap (λ l. encode (g a) ++ l) (m .2),
-        sym (m .1) ∙ law .2 ∙ ap (λ n. at + length (encode n)) (sym (h .1)))
+      let h = home (s .value) a (law .0) (m .0) in (
+        h .0,
+        law .1 ∙ ap (λ n. encode n ++ s .bytes) (sym (h .1)) ∙ ap (λ l. encode (g a) ++ l) (m .2),
+        sym (m .1) ∙ law .2 ∙ ap (λ n. at + length (encode n)) (sym (h .1)),
+      )
 
   role-stops : (at : ℕ) (bs : List ℕ) (r : Refusal) (q : ℕ) → role why f at bs ≡ refused r q → by-number r ≡ true
       → Stops (role why f) at bs r q
@@ -162,23 +166,23 @@ module _ {A : Type 0} (why : Refusal) (f : ℕ → Option A) (g : A → ℕ) (Ok
         ends = s .ends;
       })
       (λ s.
-        let law = number-codec .only at bs (s .value) (s .at) (s .bytes) (s .was) in
-        let m = meant-refused at (f (s .value)) (s .at) (s .bytes) r q (s .gives) in
-        let none : q - at ≡ 0 = omega (arith, m .2) in
-        let k = length (encode (s .value)) in
-        let spans : span bs ≡ k =
-          ap span (law .1) ∙ span-decoded (encode (s .value) ++ s .bytes) (s .value) k (decode-encode (s .value) (s .bytes) (law .0)) in
-        record {
-          used = encode (s .value);
-          rest = s .bytes;
-          parted = law .1;
-          alike = λ other.
-              ap (λ m. next m (λ n after more. meant why at (f n) after more)) (number-codec .back (s .value) at other (law .0))
-              ∙ ap (λ o. meant why at o (at + k) other) (m .0)
-              ∙ ap (λ w. refused w at) (m .1) ∙ ap (refused r) (m .2);
-          reached = omega (arith, m .2);
-          ends = omega (arith, m .2, spans, ap (λ n. span (drop n bs)) none);
-        })
+      let law = number-codec .only at bs (s .value) (s .at) (s .bytes) (s .was) in
+      let m = meant-refused at (f (s .value)) (s .at) (s .bytes) r q (s .gives) in
+      let none : q - at ≡ 0 = omega (arith, m .2) in
+      let k = length (encode (s .value)) in
+      let spans : span bs ≡ k =
+      ap span (law .1) ∙ span-decoded (encode (s .value) ++ s .bytes) (s .value) k (decode-encode (s .value) (s .bytes) (law .0)) in
+      record {
+        used = encode (s .value);
+        rest = s .bytes;
+        parted = law .1;
+        alike = λ other.
+            ap (λ m. next m (λ n after more. meant why at (f n) after more)) (number-codec .back (s .value) at other (law .0))
+            ∙ ap (λ o. meant why at o (at + k) other) (m .0)
+            ∙ ap (λ w. refused w at) (m .1) ∙ ap (refused r) (m .2);
+        reached = omega (arith, m .2);
+        ends = omega (arith, m .2, spans, ap (λ n. span (drop n bs)) none);
+      })
       (next-refused (number at bs) (λ n mid more. meant why at (f n) mid more) r q t)
 
   pub role-codec : Codec (role why f) (λ a. encode (g a)) Ok

@@ -92,7 +92,7 @@ module _ {A B C : Type 0} (p : Reader A) (q : A → Reader B) (c : A → B → C
     both-back a b code at rest h e =
         ap (both p q c at) (append-assoc (enc a) code rest)
         ∙ both-from at (at + length (enc a)) (enc a ++ (code ++ rest)) (code ++ rest) a b (at + length (enc a) + length code) rest
-          (first .back a at (code ++ rest) h) e
+        (first .back a at (code ++ rest) h) e
         ∙ ap (λ n. took (c a b) n rest) (omega (arith, length-append (enc a) code))
 
     pub both-stops : (at : ℕ) (bs : List ℕ) (r : Refusal) (z : ℕ) → both p q c at bs ≡ refused r z → by-number r ≡ true
@@ -109,27 +109,27 @@ module _ {A B C : Type 0} (p : Reader A) (q : A → Reader B) (c : A → B → C
           ends = s .ends;
         })
         (λ s.
-          let a = s .value in
-          let law = first .only at bs a (s .at) (s .bytes) (s .was) in
-          let fails = one-refused (q a) (c a) (s .at) (s .bytes) r z (s .gives) in
-          let i = one-stops (q a) (c a) (s .at) (s .bytes) r z (later a (s .at) (s .bytes) (law .0) fails) in
-          let k = length (enc a) in
-          let apart : z - at ≡ k + (z - s .at) = omega (arith, law .2, i .reached) in
-          let skipped : drop (z - at) bs ≡ drop (z - s .at) (s .bytes) =
-            ap (λ n. drop n bs) apart ∙ sym (drop-drop (z - s .at) k bs)
-            ∙ ap (λ l. drop (z - s .at) (drop k l)) (law .1) ∙ ap (drop (z - s .at)) (drop-at (enc a) (s .bytes) k refl) in
-          record {
-            used = enc a ++ i .used;
-            rest = i .rest;
-            parted = law .1 ∙ ap (λ l. enc a ++ l) (i .parted) ∙ sym (append-assoc (enc a) (i .used) (i .rest));
-            alike = λ other.
-                ap (both p q c at) (append-assoc (enc a) (i .used) other)
-                ∙ ap (λ m. next m (λ y n l. one (q y) (c y) n l)) (first .back a at (i .used ++ other) (law .0))
-                ∙ ap (λ n. one (q a) (c a) n (i .used ++ other)) (sym (law .2))
-                ∙ i .alike other;
-            reached = omega (arith, law .2, i .reached);
-            ends = omega (arith, length-append (enc a) (i .used), i .ends, law .2, ap span skipped);
-          })
+        let a = s .value in
+        let law = first .only at bs a (s .at) (s .bytes) (s .was) in
+        let fails = one-refused (q a) (c a) (s .at) (s .bytes) r z (s .gives) in
+        let i = one-stops (q a) (c a) (s .at) (s .bytes) r z (later a (s .at) (s .bytes) (law .0) fails) in
+        let k = length (enc a) in
+        let apart : z - at ≡ k + (z - s .at) = omega (arith, law .2, i .reached) in
+        let skipped : drop (z - at) bs ≡ drop (z - s .at) (s .bytes) =
+        ap (λ n. drop n bs) apart ∙ sym (drop-drop (z - s .at) k bs)
+        ∙ ap (λ l. drop (z - s .at) (drop k l)) (law .1) ∙ ap (drop (z - s .at)) (drop-at (enc a) (s .bytes) k refl) in
+        record {
+          used = enc a ++ i .used;
+          rest = i .rest;
+          parted = law .1 ∙ ap (λ l. enc a ++ l) (i .parted) ∙ sym (append-assoc (enc a) (i .used) (i .rest));
+          alike = λ other.
+              ap (both p q c at) (append-assoc (enc a) (i .used) other)
+              ∙ ap (λ m. next m (λ y n l. one (q y) (c y) n l)) (first .back a at (i .used ++ other) (law .0))
+              ∙ ap (λ n. one (q a) (c a) n (i .used ++ other)) (sym (law .2))
+              ∙ i .alike other;
+          reached = omega (arith, law .2, i .reached);
+          ends = omega (arith, length-append (enc a) (i .used), i .ends, law .2, ap span skipped);
+        })
         (next-refused (p at bs) (λ a mid more. one (q a) (c a) mid more) r z t)
 
     -- two parts make a codec where what they make can be taken apart again
@@ -141,7 +141,7 @@ module _ {A B C : Type 0} (p : Reader A) (q : A → Reader B) (c : A → B → C
     both-codec encB OkB second left right whole apart = record {
       back = λ x at rest h.
           both-back (left x) (right x) (encB (right x)) at rest (h .0)
-            (second (left x) (h .0) .back (right x) (at + length (enc (left x))) rest (h .1))
+          (second (left x) (h .0) .back (right x) (at + length (enc (left x))) rest (h .1))
           ∙ ap (λ y. took y (at + length (enc (left x) ++ encB (right x))) rest) (whole x);
       only = λ at bs x after rest t.
           let s = both-took at bs x after rest t in
@@ -151,11 +151,12 @@ module _ {A B C : Type 0} (p : Reader A) (q : A → Reader B) (c : A → B → C
           let l : left x ≡ s .first = ap left (s .made) ∙ parts .0 in
           let r : right x ≡ s .second = ap right (s .made) ∙ parts .1 in
           let code : enc (left x) ++ encB (right x) ≡ enc (s .first) ++ encB (s .second) =
-            ap (λ a. enc a ++ encB (right x)) l ∙ ap (λ b. enc (s .first) ++ encB b) r in
-          ((subst Ok (sym l) (f .0), subst (λ a. OkB a (right x)) (sym l) (subst (OkB (s .first)) (sym r) (g .0))),
+          ap (λ a. enc a ++ encB (right x)) l ∙ ap (λ b. enc (s .first) ++ encB b) r in (
+            (subst Ok (sym l) (f .0), subst (λ a. OkB a (right x)) (sym l) (subst (OkB (s .first)) (sym r) (g .0))),
             f .1 ∙ ap (λ y. enc (s .first) ++ y) (g .1) ∙ sym (append-assoc (enc (s .first)) (encB (s .second)) rest)
-              ∙ ap (λ y. y ++ rest) (sym code),
-            omega (arith, f .2, g .2, length-append (enc (s .first)) (encB (s .second)), ap length code));
+                ∙ ap (λ y. y ++ rest) (sym code),
+            omega (arith, f .2, g .2, length-append (enc (s .first)) (encB (s .second)), ap length code),
+          );
       stops = λ at bs r z t h.
           both-stops at bs r z t h (λ a mid more ok e. second a ok .stops mid more r z e h);
     }
@@ -197,17 +198,18 @@ module _ {S A : Type 0} (item : S → Reader A) (step : S → A → S) (enc : A 
       let g = times-only n (step s x) (r .middle) (r .between) ys after rest (goes n s x good (f .0)) (r .second-took) in
       subst
       (λ zs. ((length zs ≡ suc n) × Each Ok step s zs) × (bs ≡ joined enc zs ++ rest) × (after ≡ at + length (joined enc zs)))
-      (sym (r .made))
-      ((ap suc (g .0 .0), (f .0, g .0 .1)),
+      (sym (r .made)) (
+        (ap suc (g .0 .0), (f .0, g .0 .1)),
         f .1 ∙ ap (λ l. enc x ++ l) (g .1) ∙ sym (append-assoc (enc x) (joined enc ys) rest),
-        omega (arith, f .2, g .2, length-append (enc x) (joined enc ys)))
+        omega (arith, f .2, g .2, length-append (enc x) (joined enc ys)),
+      )
 
   times-stops : (n : ℕ) (s : S) (at : ℕ) (bs : List ℕ) (r : Refusal) (q : ℕ) → Good n s → times n item step s at bs ≡ refused r q
       → by-number r ≡ true → Stops (times n item step s) at bs r q
   times-stops zero s at bs r q good t h = let z : _≡_ {A = ℕ} 0 1 = cc in absurd (omega arith)
   times-stops (suc n) s at bs r q good t h =
       let i = both-stops (item s) (λ a. times n item step (step s a)) _∷_ enc (Ok s) (items n s good) at bs r q t h
-        (λ a mid more ok e. times-stops n (step s a) mid more r q (goes n s a good ok) e h) in
+      (λ a mid more ok e. times-stops n (step s a) mid more r q (goes n s a good ok) e h) in
       record { used = i .used; rest = i .rest; parted = i .parted; alike = i .alike; reached = i .reached; ends = i .ends }
 
   pub times-codec : (n : ℕ) (s : S) → Good n s → Codec (times n item step s) (joined enc) (λ xs. (length xs ≡ n) × Each Ok step s xs)
@@ -229,7 +231,7 @@ module _ {S A : Type 0} (item : S → Reader A) (step : S → A → S) (enc : A 
     (items : (n : ℕ) (s : S) → Good (suc n) s → Codec (item s) enc (Ok s)) (low high : ℕ) (small : high ≤ largest) where
   pub series-codec : (s : S) → ((n : ℕ) → n ≤ high → Good n s)
       → Codec (series low high item step s) (counted enc)
-        (λ xs. (within low high (length xs) ≡ true) × ((length xs ≡ length xs) × Each Ok step s xs))
+      (λ xs. (within low high (length xs) ≡ true) × ((length xs ≡ length xs) × Each Ok step s xs))
   series-codec s good =
       both-codec (count low high) (λ n. times n item step s) (λ n xs. xs)
       encode (λ n. within low high n ≡ true) (count-codec low high small)

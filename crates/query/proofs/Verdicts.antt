@@ -53,12 +53,13 @@ pub accepted-exactly : Accepted-exactly
 accepted-exactly bytes q = (accepted-is-written bytes q, written-is-accepted bytes q)
 
 pub one-writing-each : One-writing-each
-one-writing-each =
-    (λ bytes other q e f. accepted-is-written bytes q e .1 ∙ sym (accepted-is-written other q f .1),
-      λ q r h k e.
-        let x = written-is-accepted (bytes-of q) q h refl in
-        let y = written-is-accepted (bytes-of q) r k e in
-        let z : accepted q ≡ accepted r = sym x ∙ y in cc)
+one-writing-each = (
+  λ bytes other q e f. accepted-is-written bytes q e .1 ∙ sym (accepted-is-written other q f .1),
+  λ q r h k e.
+      let x = written-is-accepted (bytes-of q) q h refl in
+      let y = written-is-accepted (bytes-of q) r k e in
+      let z : accepted q ≡ accepted r = sym x ∙ y in cc,
+)
 
 -- refused
 
@@ -86,7 +87,7 @@ refused-for-good bytes other r at e h agree =
     let all : at - 0 ≡ at = omega arith in
     let long : length (s .used) ≡ number-end at bytes = omega (arith, s .ends, ap (λ n. span (drop n bytes)) all) in
     let front : take (number-end at bytes) bytes ≡ s .used =
-      ap (take (number-end at bytes)) (s .parted) ∙ take-at (s .used) (s .rest) (number-end at bytes) long in
+    ap (take (number-end at bytes)) (s .parted) ∙ take-at (s .used) (s .rest) (number-end at bytes) long in
     let split : s .used ++ drop (number-end at bytes) other ≡ other =
-      ap (λ l. l ++ drop (number-end at bytes) other) (sym (agree ∙ front)) ∙ take-append-drop (number-end at bytes) other in
+    ap (λ l. l ++ drop (number-end at bytes) other) (sym (agree ∙ front)) ∙ take-append-drop (number-end at bytes) other in
     ap (λ l. concluded (alternatives 0 l)) (sym split) ∙ ap concluded (s .alike (drop (number-end at bytes) other))

@@ -16,7 +16,7 @@ use Rattle.refusal.specs.declared.refusal.Refusal.{Refusal}
 use Rattle.refusal.specs.declared.refusal.Refusal.the-variants.{EndsEarly, Malformed, CountOutside, PlaceCode, NodeInvalid, BytesLeft, SharedByBlocks}
 use Rattle.query.specs.declared.place.Place.{Place}
 use Rattle.query.specs.declared.kind.Kind.{Kind}
-use Rattle.query.specs.declared.kind.Kind.the-variants as kind
+use Rattle.query.specs.declared.kind.Kind.the-variants as kinds
 use Rattle.query.specs.declared.node.Node.{Node}
 use Rattle.query.specs.declared.node.Node.the-variants.{Equal, Less, Bound, Not, And, Or}
 use Rattle.query.specs.declared.pattern.TriplePattern.{TriplePattern}
@@ -106,16 +106,20 @@ lower i = role NodeInvalid (λ a. when (ltb a i) a)
 
 -- what follows the kind of node number i
 abbrev pub operands : ℕ → Kind → Reader Node
-operands i kind.Equal = both place (λ _. place) (λ a b. Equal a b)
-operands i kind.Less = both place (λ _. place) (λ a b. Less a b)
-operands i kind.Bound = one variable (λ v. Bound v)
-operands i kind.Not = one (lower i) (λ a. Not a)
-operands i kind.And = both (lower i) (λ _. lower i) (λ a b. And a b)
-operands i kind.Or = both (lower i) (λ _. lower i) (λ a b. Or a b)
+operands i kinds.Equal = both place (λ _. place) (λ a b. Equal a b)
+operands i kinds.Less = both place (λ _. place) (λ a b. Less a b)
+operands i kinds.Bound = one variable (λ v. Bound v)
+operands i kinds.Not = one (lower i) (λ a. Not a)
+operands i kinds.And = both (lower i) (λ _. lower i) (λ a b. And a b)
+operands i kinds.Or = both (lower i) (λ _. lower i) (λ a b. Or a b)
+
+-- the kind of a node
+abbrev pub kind : Reader Kind
+kind = role NodeInvalid kind-from
 
 -- node number i of a filter
 abbrev pub node : ℕ → Reader Node
-node i = both (role NodeInvalid kind-from) (operands i) (λ _ n. n)
+node i = both kind (operands i) (λ _ n. n)
 
 -- a filter, where used nodes were read before
 abbrev pub filter : ℕ → Reader (List Node)

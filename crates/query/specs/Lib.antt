@@ -5,4 +5,5 @@ pub mod Format  -- a query's bytes
 pub mod Lawful  -- which queries there are
 pub mod Variables  -- sets of variables
 pub mod Grammar  -- what a reader makes of bytes
+pub mod Calls  -- what the calls answer
 pub mod Theorems  -- what this crate proves

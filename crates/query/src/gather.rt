@@ -16,7 +16,9 @@ impl VariableSet {
     pub(crate) fn empty() -> VariableSet
         ensures { λ r. ⌜ Gathers r [] ⌝ }
     {
-        VariableSet { members: [false; 16] }
+        VariableSet {
+            members: [false; 16],
+        }
     }
 
     /// Whether variable `v` is a member.

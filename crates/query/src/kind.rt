@@ -14,7 +14,14 @@ pub enum Kind {
 }
 
 /// The kinds, by their numbers.
-const KINDS: [Kind; 6] = [Kind::Equal, Kind::Less, Kind::Bound, Kind::Not, Kind::And, Kind::Or];
+const KINDS: [Kind; 6] = [
+    Kind::Equal,
+    Kind::Less,
+    Kind::Bound,
+    Kind::Not,
+    Kind::And,
+    Kind::Or,
+];
 
 impl Kind {
     /// The number that stands for the kind.

@@ -1,10 +1,13 @@
 //! A coded query: its types, its reader, its writer.
 pub mod alternative;
 pub mod block;
+mod cursor;
 mod gather;
 pub mod kind;
 pub mod node;
 pub mod pattern;
 pub mod place;
+mod roles;
+mod terms;
 pub mod theorems;
 mod variables;

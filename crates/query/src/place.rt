@@ -34,7 +34,11 @@ impl Place {
     {
         let number = code / 2;
         if code % 2 == 1 {
-            if number <= MOST_VARIABLE { Some(Place::Variable(number)) } else { None }
+            if number <= MOST_VARIABLE {
+                Some(Place::Variable(number))
+            } else {
+                None
+            }
         } else if number >= 1 && number <= MOST_TERM {
             Some(Place::Term(number))
         } else {
