@@ -5,4 +5,6 @@ pub mod Numbers  -- a number read at a place
 pub mod Sequences  -- laws of parts read one behind the other
 pub mod Codecs  -- places, triples and nodes, each with its writing
 pub mod Parts  -- lists, blocks and alternatives, each with its writing
+pub mod Clashes  -- blocks that share a variable
+pub mod Drafts  -- what is kept while a query is read
 pub mod Verdicts  -- what follows for whole byte strings

@@ -40,6 +40,11 @@ abbrev pub some : {A : Type 0} → (A → Bool) → List A → Bool
 some p [] = false
 some p (x ∷ xs) = p x || some p xs
 
+-- p holds of two elements
+abbrev pub in-two : {A : Type 0} → (A → Bool) → List A → Bool
+in-two p [] = false
+in-two p (x ∷ xs) = (p x && some p xs) || in-two p xs
+
 -- the sum of f over the elements
 abbrev pub total : {A : Type 0} → (A → ℕ) → List A → ℕ
 total f [] = 0
@@ -84,15 +89,11 @@ is-variable v (Term t) = false
 abbrev pub mentions : ℕ → List TriplePattern → Bool
 mentions v ts = some (λ t. is-variable v (t .subject) || (is-variable v (t .property) || is-variable v (t .object))) ts
 
--- the variable v is in the triples of two of the blocks
-abbrev pub in-two : ℕ → List Part → Bool
-in-two v [] = false
-in-two v (b ∷ bs) = (mentions v (b .triples) && some (λ c. mentions v (c .triples)) bs) || in-two v bs
-
 -- some variable below n is in the triples of two blocks and not in the required triples
 abbrev pub shared-below : ℕ → Group → Bool
 shared-below zero g = false
-shared-below (suc v) g = (in-two v (g .blocks) && not (mentions v (g .required))) || shared-below v g
+shared-below (suc v) g =
+    (in-two (λ b. mentions v (b .triples)) (g .blocks) && not (mentions v (g .required))) || shared-below v g
 
 -- some variable is in the triples of two blocks and not in the required triples
 abbrev pub shares : Group → Bool

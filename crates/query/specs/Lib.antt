@@ -5,5 +5,6 @@ pub mod Format  -- a query's bytes
 pub mod Lawful  -- which queries there are
 pub mod Variables  -- sets of variables
 pub mod Grammar  -- what a reader makes of bytes
+pub mod Drafts  -- a query while its parts come in
 pub mod Calls  -- what the calls answer
 pub mod Theorems  -- what this crate proves

@@ -1,0 +1,64 @@
+-- A query of which some parts have come in, in the order of its bytes. Assumes nothing.
+--     Draft     the finished alternatives, and what the alternative in work has so far
+use mathlib.Core.List.{List, [], _∷_, _++_, map}
+use Rattle.std.specs.Of.Vec.{vec-items}
+use Rattle.query.specs.declared.node.Node.{Node}
+use Rattle.query.specs.declared.pattern.TriplePattern.{TriplePattern}
+use Rattle.query.specs.declared.kept.Kept.{Kept}
+use Rattle.query.specs.Parts.{Part, Group, part-of, group-of}
+
+-- what has come in: alternatives, then required triples and blocks, then the triples and nodes of the part in work
+pub record Draft : Type 0 where
+  pub done : List Group
+  pub required : List TriplePattern
+  pub blocks : List Part
+  pub triples : List TriplePattern
+  pub nodes : List Node
+
+-- nothing has come in
+abbrev pub fresh : Draft
+fresh = record { done = []; required = []; blocks = []; triples = []; nodes = [] }
+
+-- a triple more in the part in work
+abbrev pub with-triple : Draft → TriplePattern → Draft
+with-triple d t =
+    record { done = d .done; required = d .required; blocks = d .blocks; triples = d .triples ++ t ∷ []; nodes = d .nodes }
+
+-- a node more in the filter in work
+abbrev pub with-node : Draft → Node → Draft
+with-node d n =
+    record { done = d .done; required = d .required; blocks = d .blocks; triples = d .triples; nodes = d .nodes ++ n ∷ [] }
+
+-- the triples in work are the required ones
+abbrev pub required-ended : Draft → Draft
+required-ended d = record { done = d .done; required = d .triples; blocks = d .blocks; triples = []; nodes = d .nodes }
+
+-- the triples and nodes in work are a block
+abbrev pub block-ended : Draft → Draft
+block-ended d = record {
+  done = d .done;
+  required = d .required;
+  blocks = d .blocks ++ record { triples = d .triples; filter = d .nodes } ∷ [];
+  triples = [];
+  nodes = [];
+}
+
+-- the required triples, the blocks and the nodes in work are an alternative
+abbrev pub alternative-ended : Draft → Draft
+alternative-ended d = record {
+  done = d .done ++ record { required = d .required; blocks = d .blocks; filter = d .nodes } ∷ [];
+  required = [];
+  blocks = [];
+  triples = d .triples;
+  nodes = [];
+}
+
+-- the draft that is kept in memory
+abbrev pub draft-of : Kept → Draft
+draft-of k = record {
+  done = map group-of (vec-items (k .done));
+  required = vec-items (k .required);
+  blocks = map part-of (vec-items (k .blocks));
+  triples = vec-items (k .triples);
+  nodes = vec-items (k .nodes);
+}

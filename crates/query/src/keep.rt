@@ -1,0 +1,67 @@
+//! Keeping the parts of a query as they come in. Each call says whether there was memory for it.
+ghost use mathlib.Core.Bool.{true};
+ghost use mathlib.Core.Path.{_≡_};
+ghost use Rattle.query.specs.Drafts.{fresh, with-triple, with-node, required-ended, block-ended, alternative-ended, draft-of};
+use crate::alternative::Alternative;
+use crate::block::Block;
+use crate::kept::Kept;
+use crate::node::Node;
+use crate::pattern::TriplePattern;
+use std::alloc::Global;
+use std::mem;
+
+impl Kept {
+    /// Nothing came in yet.
+    pub(crate) fn new(heap: Global) -> Kept
+        ensures { λ r. ⌜ draft-of r ≡ fresh ⌝ }
+    {
+        Kept {
+            heap,
+            done: Vec::new(heap),
+            required: Vec::new(heap),
+            blocks: Vec::new(heap),
+            triples: Vec::new(heap),
+            nodes: Vec::new(heap),
+        }
+    }
+
+    /// A triple of the part in work.
+    pub(crate) fn triple(&mut self, triple: TriplePattern) -> bool
+        ensures { λ r. ⌜ (r ≡ true → draft-of (now (self .exit)) ≡ with-triple (draft-of (now (self .entry))) triple) ⌝ }
+    {
+        self.triples.push(triple).is_ok()
+    }
+
+    /// A node of the filter in work.
+    pub(crate) fn node(&mut self, node: Node) -> bool
+        ensures { λ r. ⌜ (r ≡ true → draft-of (now (self .exit)) ≡ with-node (draft-of (now (self .entry))) node) ⌝ }
+    {
+        self.nodes.push(node).is_ok()
+    }
+
+    /// The triples in work are the required ones.
+    pub(crate) fn end_required(&mut self)
+        ensures { λ _. ⌜ draft-of (now (self .exit)) ≡ required-ended (draft-of (now (self .entry))) ⌝ }
+    {
+        self.required = mem::replace(&mut self.triples, Vec::new(self.heap));
+    }
+
+    /// The triples and the filter in work are a block.
+    pub(crate) fn end_block(&mut self) -> bool
+        ensures { λ r. ⌜ (r ≡ true → draft-of (now (self .exit)) ≡ block-ended (draft-of (now (self .entry)))) ⌝ }
+    {
+        let triples = mem::replace(&mut self.triples, Vec::new(self.heap));
+        let filter = mem::replace(&mut self.nodes, Vec::new(self.heap));
+        self.blocks.push(Block { triples, filter }).is_ok()
+    }
+
+    /// The required triples, the blocks and the filter in work are an alternative.
+    pub(crate) fn end_alternative(&mut self) -> bool
+        ensures { λ r. ⌜ (r ≡ true → draft-of (now (self .exit)) ≡ alternative-ended (draft-of (now (self .entry)))) ⌝ }
+    {
+        let required = mem::replace(&mut self.required, Vec::new(self.heap));
+        let blocks = mem::replace(&mut self.blocks, Vec::new(self.heap));
+        let filter = mem::replace(&mut self.nodes, Vec::new(self.heap));
+        self.done.push(Alternative { required, blocks, filter }).is_ok()
+    }
+}
