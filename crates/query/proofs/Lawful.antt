@@ -1,10 +1,16 @@
 -- Laws of the tests over lists that make a query lawful. Assumes nothing.
-use mathlib.Core.Bool.{Bool, true, false, _||_}
+use mathlib.Core.Bool.{Bool, true, false, not, _&&_, _||_}
 use mathlib.Core.List.{List, [], _∷_, _++_}
+use mathlib.Core.Logic.{⊎-elim}
 use mathlib.Core.Path.{_≡_, refl, sym, ap, _∙_}
-use Prim.Native.Nat.{ℕ, _+_}
+use Prim.Native.Nat.{ℕ, zero, suc, _+_, _<_}
 use native.Mathlib.Omega.{arith}
-use Rattle.query.specs.Lawful.{some, total}
+use lib.ListN.{length, getD}
+use Rattle.std.proofs.shelf.Tests.{and-parts, and-from, or-cases, or-left, or-right}
+use Rattle.std.proofs.shelf.Ways.{decides-below-or}
+use Rattle.std.specs.Orderings.{Decides}
+use Rattle.query.specs.Parts.{Group}
+use Rattle.query.specs.Lawful.{some, in-two, total, mentions, shared-below, shares}
 
 -- ||
 
@@ -21,6 +27,76 @@ or-assoc false y z = refl
 pub some-push : {A : Type 0} (p : A → Bool) (xs : List A) (x : A) → some p (xs ++ x ∷ []) ≡ (some p xs || p x)
 some-push p [] x = or-false (p x)
 some-push p (y ∷ xs) x = ap (λ b. p y || b) (some-push p xs x) ∙ sym (or-assoc (p y) (some p xs) (p x))
+
+pub some-from : {A : Type 0} (p : A → Bool) (xs : List A) (j : ℕ) (d : A) → j < length xs → p (getD xs j d) ≡ true → some p xs ≡ true
+some-from p [] j d l h = absurd (omega arith)
+some-from p (x ∷ xs) zero d l h = or-left (p x) (some p xs) h
+some-from p (x ∷ xs) (suc j) d l h = or-right (p x) (some p xs) (some-from p xs j d (omega arith) h)
+
+pub some-at : {A : Type 0} (p : A → Bool) (xs : List A) (d : A) → some p xs ≡ true
+    → (j : ℕ) × ((j < length xs) × (p (getD xs j d) ≡ true))
+some-at p [] d h = let z : _≡_ {A = ℕ} 0 1 = cc in absurd (omega arith)
+some-at p (x ∷ xs) d h =
+    ⊎-elim (λ e. (0, (omega arith, e)))
+    (λ e. let (j, (l, t)) = some-at p xs d e in (suc j, (omega arith, t)))
+    (or-cases (p x) (some p xs) h)
+
+-- in-two
+
+-- p holds of two elements
+pub record Two {A : Type 0} (p : A → Bool) (xs : List A) (d : A) : Type 0 where
+  pub first : ℕ
+  pub second : ℕ
+  pub ordered : first < second
+  pub inside : second < length xs
+  pub first-holds : p (getD xs first d) ≡ true
+  pub second-holds : p (getD xs second d) ≡ true
+
+in-two-from : {A : Type 0} (p : A → Bool) (xs : List A) (i j : ℕ) (d : A) → i < j → j < length xs → p (getD xs i d) ≡ true
+    → p (getD xs j d) ≡ true → in-two p xs ≡ true
+in-two-from p [] i j d o l h k = absurd (omega arith)
+in-two-from p (x ∷ xs) zero zero d o l h k = absurd (omega arith)
+in-two-from p (x ∷ xs) zero (suc j) d o l h k =
+    or-left (p x && some p xs) (in-two p xs) (and-from (p x) (some p xs) h (some-from p xs j d (omega arith) k))
+in-two-from p (x ∷ xs) (suc i) zero d o l h k = absurd (omega arith)
+in-two-from p (x ∷ xs) (suc i) (suc j) d o l h k =
+    or-right (p x && some p xs) (in-two p xs) (in-two-from p xs i j d (omega arith) (omega arith) h k)
+
+in-two-at : {A : Type 0} (p : A → Bool) (xs : List A) (d : A) → in-two p xs ≡ true → Two p xs d
+in-two-at p [] d h = let z : _≡_ {A = ℕ} 0 1 = cc in absurd (omega arith)
+in-two-at p (x ∷ xs) d h =
+    ⊎-elim
+    (λ e.
+      let w = and-parts (p x) (some p xs) e in
+      let (j, (l, t)) = some-at p xs d (w .1) in
+      record { first = 0; second = suc j; ordered = omega arith; inside = omega arith; first-holds = w .0; second-holds = t })
+    (λ e.
+      let t = in-two-at p xs d e in
+      let o = t .ordered in
+      let i = t .inside in
+      record {
+        first = suc (t .first);
+        second = suc (t .second);
+        ordered = omega arith;
+        inside = omega arith;
+        first-holds = t .first-holds;
+        second-holds = t .second-holds;
+      })
+    (or-cases (p x && some p xs) (in-two p xs) h)
+
+pub in-two-decides : {A : Type 0} (p : A → Bool) (xs : List A) (d : A) → Decides (in-two p xs) (Two p xs d)
+in-two-decides p xs d =
+    (in-two-at p xs d, λ t. in-two-from p xs (t .first) (t .second) d (t .ordered) (t .inside) (t .first-holds) (t .second-holds))
+
+-- shares
+
+-- a variable in the triples of two blocks and not in the required triples
+abbrev pub lacking : Group → ℕ → Bool
+lacking g v = in-two (λ b. mentions v (b .triples)) (g .blocks) && not (mentions v (g .required))
+
+pub shares-decides : (g : Group) → Decides (shares g) ((v : ℕ) × (v < 16) × (lacking g v ≡ true))
+shares-decides g =
+    decides-below-or (lacking g) (λ v. lacking g v ≡ true) (λ n. shared-below n g) (λ v. (λ e. e, λ e. e)) refl (λ _. refl) 16
 
 -- total
 

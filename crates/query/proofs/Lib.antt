@@ -7,4 +7,5 @@ pub mod Codecs  -- places, triples and nodes, each with its writing
 pub mod Parts  -- lists, blocks and alternatives, each with its writing
 pub mod Clashes  -- blocks that share a variable
 pub mod Drafts  -- what is kept while a query is read
+pub mod Building  -- what the builder knows
 pub mod Verdicts  -- what follows for whole byte strings

@@ -15,7 +15,7 @@ use Rattle.query.specs.Parts.{Part, Group}
 use Rattle.query.specs.Codes.{within}
 use Rattle.query.specs.Format.{triple-bytes, node-bytes, part-bytes, group-bytes, counted, bytes-of}
 use Rattle.query.specs.Lawful.{every, total, lawful-triple, lawful-node, lawful-nodes, lawful-filter, lawful-triples, lawful-part, lawful-group, limited, triples-in, nodes-in, most-in-part, most-in-all, most-blocks, most-alternatives}
-use Rattle.query.specs.Grammar.{Reader, both, triple, triples, node, filter, room, Used, block, blocks, with-part, with-triples, with-group, nodes-after, alternative, alternatives}
+use Rattle.query.specs.Grammar.{Reader, both, triple, triples, node, filter, room, Used, block, blocks, with-part, with-triples, with-group, unused, nodes-after, alternative, alternatives}
 use Rattle.query.proofs.Readers.{Codec, codec-like}
 use Rattle.query.proofs.Sequences.{Each, both-codec, series-codec}
 use Rattle.query.proofs.Codecs.{triple-codec, node-codec}
@@ -214,10 +214,6 @@ alternative-codec u f =
     (λ ts x. Blocks-ok (with-triples u (length ts)) (x .0) × Nodes (nodes-after u (x .0)) (x .1))
     (λ ts ok. tail-codec u (length ts) (omega (arith, ok .1, f .0), f .1))
     (λ g. g .required) (λ g. (g .blocks, g .filter)) (λ g. refl) (λ a b _. (refl, refl)))
-
--- nothing is used yet
-abbrev unused : Used
-unused = record { triples = 0; nodes = 0 }
 
 -- each alternative in turn, with room for it
 abbrev Groups-ok : List Group → Type 0

@@ -1,10 +1,15 @@
 -- A query of which some parts have come in, in the order of its bytes. Assumes nothing.
 --     Draft     the finished alternatives, and what the alternative in work has so far
 use mathlib.Core.List.{List, [], _∷_, _++_, map}
+use mathlib.Core.Path.{_≡_}
 use Rattle.std.specs.Of.Vec.{vec-items}
-use Rattle.query.specs.declared.node.Node.{Node}
+use Rattle.std.specs.declared.option.Option.{Option}
+use Rattle.std.specs.declared.option.Option.the-variants.{Some, None}
+use Rattle.query.specs.declared.node.Node as node
 use Rattle.query.specs.declared.pattern.TriplePattern.{TriplePattern}
 use Rattle.query.specs.declared.kept.Kept.{Kept}
+use Rattle.query.specs.declared.step.Step.{Step}
+use Rattle.query.specs.declared.step.Step.the-variants.{Triple, Node, EndRequired, EndBlock, EndAlternative}
 use Rattle.query.specs.Parts.{Part, Group, part-of, group-of}
 
 -- what has come in: alternatives, then required triples and blocks, then the triples and nodes of the part in work
@@ -13,7 +18,7 @@ pub record Draft : Type 0 where
   pub required : List TriplePattern
   pub blocks : List Part
   pub triples : List TriplePattern
-  pub nodes : List Node
+  pub nodes : List node.Node
 
 -- nothing has come in
 abbrev pub fresh : Draft
@@ -25,7 +30,7 @@ with-triple d t =
     record { done = d .done; required = d .required; blocks = d .blocks; triples = d .triples ++ t ∷ []; nodes = d .nodes }
 
 -- a node more in the filter in work
-abbrev pub with-node : Draft → Node → Draft
+abbrev pub with-node : Draft → node.Node → Draft
 with-node d n =
     record { done = d .done; required = d .required; blocks = d .blocks; triples = d .triples; nodes = d .nodes ++ n ∷ [] }
 
@@ -53,6 +58,14 @@ alternative-ended d = record {
   nodes = [];
 }
 
+-- the draft after a step
+abbrev pub stepped : Draft → Step → Draft
+stepped d (Triple t) = with-triple d t
+stepped d (Node n) = with-node d n
+stepped d EndRequired = required-ended d
+stepped d EndBlock = block-ended d
+stepped d EndAlternative = alternative-ended d
+
 -- the draft that is kept in memory
 abbrev pub draft-of : Kept → Draft
 draft-of k = record {
@@ -62,3 +75,8 @@ draft-of k = record {
   triples = vec-items (k .triples);
   nodes = vec-items (k .nodes);
 }
+
+-- what is kept, if anything is, is the draft
+abbrev pub Keeps : Option Kept → Draft → Type 0
+Keeps None d = Unit {0}
+Keeps (Some k) d = draft-of k ≡ d

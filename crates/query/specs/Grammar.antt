@@ -150,6 +150,10 @@ with-triples u n = record { triples = u .triples + n; nodes = u .nodes }
 abbrev pub nodes-after : Used → List Part → ℕ
 nodes-after u bs = u .nodes + total (λ b. length (b .filter)) bs
 
+-- what is used with so many nodes more
+abbrev pub with-nodes : Used → ℕ → Used
+with-nodes u n = record { triples = u .triples; nodes = u .nodes + n }
+
 -- an alternative
 abbrev pub alternative : Used → Reader Group
 alternative u =
@@ -161,9 +165,13 @@ alternative u =
 abbrev pub with-group : Used → Group → Used
 with-group u g = record { triples = u .triples + triples-in g; nodes = u .nodes + nodes-in g }
 
+-- nothing is used yet
+abbrev pub unused : Used
+unused = record { triples = 0; nodes = 0 }
+
 -- the alternatives of a query
 abbrev pub alternatives : Reader (List Group)
-alternatives = series 1 most-alternatives alternative with-group (record { triples = 0; nodes = 0 })
+alternatives = series 1 most-alternatives alternative with-group unused
 
 -- a byte string is a query, or is refused at a place
 pub data Verdict : Type 0 where

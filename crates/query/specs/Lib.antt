@@ -6,5 +6,6 @@ pub mod Lawful  -- which queries there are
 pub mod Variables  -- sets of variables
 pub mod Grammar  -- what a reader makes of bytes
 pub mod Drafts  -- a query while its parts come in
+pub mod Building  -- what the builder knows
 pub mod Calls  -- what the calls answer
 pub mod Theorems  -- what this crate proves

@@ -1,12 +1,13 @@
 //! Keeping the parts of a query as they come in. Each call says whether there was memory for it.
 ghost use mathlib.Core.Bool.{true};
 ghost use mathlib.Core.Path.{_≡_};
-ghost use Rattle.query.specs.Drafts.{fresh, with-triple, with-node, required-ended, block-ended, alternative-ended, draft-of};
+ghost use Rattle.query.specs.Drafts.{fresh, with-triple, with-node, required-ended, block-ended, alternative-ended, draft-of, stepped, Draft, Keeps};
 use crate::alternative::Alternative;
 use crate::block::Block;
 use crate::kept::Kept;
 use crate::node::Node;
 use crate::pattern::TriplePattern;
+use crate::step::Step;
 use std::alloc::Global;
 use std::mem;
 
@@ -26,28 +27,28 @@ impl Kept {
     }
 
     /// A triple of the part in work.
-    pub(crate) fn triple(&mut self, triple: TriplePattern) -> bool
+    fn triple(&mut self, triple: TriplePattern) -> bool
         ensures { λ r. ⌜ (r ≡ true → draft-of (now (self .exit)) ≡ with-triple (draft-of (now (self .entry))) triple) ⌝ }
     {
         self.triples.push(triple).is_ok()
     }
 
     /// A node of the filter in work.
-    pub(crate) fn node(&mut self, node: Node) -> bool
+    fn node(&mut self, node: Node) -> bool
         ensures { λ r. ⌜ (r ≡ true → draft-of (now (self .exit)) ≡ with-node (draft-of (now (self .entry))) node) ⌝ }
     {
         self.nodes.push(node).is_ok()
     }
 
     /// The triples in work are the required ones.
-    pub(crate) fn end_required(&mut self)
+    fn end_required(&mut self)
         ensures { λ _. ⌜ draft-of (now (self .exit)) ≡ required-ended (draft-of (now (self .entry))) ⌝ }
     {
         self.required = mem::replace(&mut self.triples, Vec::new(self.heap));
     }
 
     /// The triples and the filter in work are a block.
-    pub(crate) fn end_block(&mut self) -> bool
+    fn end_block(&mut self) -> bool
         ensures { λ r. ⌜ (r ≡ true → draft-of (now (self .exit)) ≡ block-ended (draft-of (now (self .entry)))) ⌝ }
     {
         let triples = mem::replace(&mut self.triples, Vec::new(self.heap));
@@ -56,12 +57,39 @@ impl Kept {
     }
 
     /// The required triples, the blocks and the filter in work are an alternative.
-    pub(crate) fn end_alternative(&mut self) -> bool
+    fn end_alternative(&mut self) -> bool
         ensures { λ r. ⌜ (r ≡ true → draft-of (now (self .exit)) ≡ alternative-ended (draft-of (now (self .entry)))) ⌝ }
     {
         let required = mem::replace(&mut self.required, Vec::new(self.heap));
         let blocks = mem::replace(&mut self.blocks, Vec::new(self.heap));
         let filter = mem::replace(&mut self.nodes, Vec::new(self.heap));
         self.done.push(Alternative { required, blocks, filter }).is_ok()
+    }
+
+    /// Takes one step; false where there is no memory for it.
+    fn take(&mut self, step: Step) -> bool
+        ensures { λ r. ⌜ (r ≡ true → draft-of (now (self .exit)) ≡ stepped (draft-of (now (self .entry))) step) ⌝ }
+    {
+        match step {
+            Step::Triple(triple) => self.triple(triple),
+            Step::Node(node) => self.node(node),
+            Step::EndRequired => {
+                self.end_required();
+                true
+            }
+            Step::EndBlock => self.end_block(),
+            Step::EndAlternative => self.end_alternative(),
+        }
+    }
+}
+
+/// Takes one step if parts are kept; where there is no memory for it, nothing is kept any more.
+pub(crate) fn keep(kept: &mut Option<Kept>, step: Step)
+    ensures { λ _. ⌜ ((d : Draft) → Keeps (now (kept .entry)) d → Keeps (now (kept .exit)) (stepped d step)) ⌝ }
+{
+    if let Some(parts) = kept {
+        if !parts.take(step) {
+            *kept = None;
+        }
     }
 }

@@ -1,6 +1,8 @@
 //! A coded query: its types, its reader, its writer.
 pub mod alternative;
 pub mod block;
+mod build;
+mod builder;
 mod cursor;
 mod gather;
 mod keep;
@@ -11,6 +13,7 @@ pub mod pattern;
 pub mod place;
 mod roles;
 mod sharing;
+mod step;
 mod terms;
 pub mod theorems;
 mod variables;

@@ -1,79 +1,22 @@
 -- Laws of numbers in seven-bit groups: what is written is read back, and nothing else is read as a number.
 -- Assumes nothing.
-use mathlib.Core.Bool.{true, false, cond, _&&_}
+use mathlib.Core.Bool.{true, _&&_}
 use mathlib.Core.List.{List, [], _∷_, _++_}
 use mathlib.Core.Logic.{_⊎_, inl, inr, ⊎-elim}
 use mathlib.Core.Path.{_≡_, refl, sym, ap, subst, _∙_}
-use Prim.Native.Nat.{ℕ, zero, suc, _+_, _-_, _*_, _/_, _%_, _^_, _≤_, _<_}
-use native.Mathlib.Nat.{pow-suc}
+use Prim.Native.Nat.{ℕ, zero, suc, _+_, _-_, _%_, _≤_, _<_}
 use native.Mathlib.Omega.{arith}
 use lib.Dec.{ltb, leb, eqb}
 use lib.ListN.{length, take, drop}
 use Rattle.std.proofs.shelf.Lists.{append-nil, take-at, take-append-drop, length-take-le}
 use Rattle.std.proofs.shelf.Tests.{and-from, and-parts, cases-lt, cond-both, cond-true, cond-false}
-use Rattle.std.proofs.shelf.Tests.{eq-eqb, eqb-true, le-leb, leb-true, lt-ltb, le-ltb, ltb-true, ltb-false}
-use Rattle.varint.specs.Encode.{encode, groups, largest}
+use Rattle.std.proofs.shelf.Tests.{eq-eqb, eqb-true, le-leb, leb-true, lt-ltb, le-ltb}
+use Rattle.varint.specs.Encode.{encode, largest}
 use Rattle.varint.specs.Decode.{ends-early, malformed, decoded, decode}
 use Rattle.varint.specs.Decode.{one-more, span, value, same, judged, spanned}
+use Rattle.varint.proofs.Groups.{length-groups, encode-each}
 
--- groups
-
-pub groups-less : (k n : ℕ) → n < 128 → groups k n ≡ n ∷ []
-groups-less zero n h = refl
-groups-less (suc k) n h =
-    cond-true (ltb n 128) (n ∷ []) ((128 + n % 128) ∷ groups k (n / 128)) (lt-ltb n 128 h)
-
-pub groups-more : (k n : ℕ) → 128 ≤ n → groups (suc k) n ≡ (128 + n % 128) ∷ groups k (n / 128)
-groups-more k n h =
-    cond-false (ltb n 128) (n ∷ []) ((128 + n % 128) ∷ groups k (n / 128)) (le-ltb n 128 h)
-
--- a number that k groups and a last one hold takes no more where more are allowed
-groups-enough : (k n : ℕ) → n < 128 ^ suc k → groups (suc k) n ≡ groups k n
-groups-enough zero n h = groups-less 1 n h
-groups-enough (suc k) n h =
-    ⊎-elim
-    (λ less. groups-less (suc (suc k)) n less ∙ sym (groups-less (suc k) n less))
-    (λ more. let e = groups-enough k (n / 128) (omega (arith, pow-suc 128 (suc k)))
-    in groups-more (suc k) n more ∙ ap (λ bs. (128 + n % 128) ∷ bs) e ∙ sym (groups-more k n more))
-    (cases-lt n 128)
-
--- what holds of a last byte, and with each byte before it, holds of a number and its groups
-groups-each : (P : ℕ → List ℕ → Type 0)
-    → ((n : ℕ) → n < 128 → P n (n ∷ []))
-    → ((n : ℕ) (bs : List ℕ) → 128 ≤ n → P (n / 128) bs → P n ((128 + n % 128) ∷ bs))
-    → (k n : ℕ) → n < 128 ^ suc k → P n (groups k n)
-groups-each P last more zero n h = last n h
-groups-each P last more (suc k) n h =
-    cond-both (ltb n 128) (n ∷ []) ((128 + n % 128) ∷ groups k (n / 128)) (P n)
-    (λ e. last n (ltb-true n 128 e))
-    (λ e. more n (groups k (n / 128)) (ltb-false n 128 e)
-    (groups-each P last more k (n / 128) (omega (arith, pow-suc 128 (suc k)))))
-
-length-groups : (k n : ℕ) → (1 ≤ length (groups k n)) × (length (groups k n) ≤ suc k)
-length-groups zero n = (omega arith, omega arith)
-length-groups (suc k) n =
-    cond-both (ltb n 128) (n ∷ []) ((128 + n % 128) ∷ groups k (n / 128))
-    (λ bs. (1 ≤ length bs) × (length bs ≤ suc (suc k)))
-    (λ _. (omega arith, omega arith))
-    (λ _. let h = length-groups k (n / 128) in (omega arith, omega arith))
-
--- encode
-
-pub encode-less : (n : ℕ) → n < 128 → encode n ≡ n ∷ []
-unfolding encode
-encode-less n h = groups-less 4 n h
-
-pub encode-more : (n : ℕ) → n ≤ largest → 128 ≤ n → encode n ≡ (128 + n % 128) ∷ encode (n / 128)
-unfolding encode
-encode-more n h more =
-    groups-more 3 n more ∙ ap (λ bs. (128 + n % 128) ∷ bs) (sym (groups-enough 3 (n / 128) (omega arith)))
-
-pub encode-each : (P : ℕ → List ℕ → Type 0)
-    → ((n : ℕ) → n < 128 → P n (n ∷ []))
-    → ((n : ℕ) (bs : List ℕ) → 128 ≤ n → P (n / 128) bs → P n ((128 + n % 128) ∷ bs))
-    → (n : ℕ) → n ≤ largest → P n (encode n)
-unfolding encode
-encode-each P last more n h = groups-each P last more 4 n (omega arith)
+-- length
 
 pub length-encode : (n : ℕ) → (1 ≤ length (encode n)) × (length (encode n) ≤ 5)
 unfolding encode
@@ -122,7 +65,7 @@ span-each P last more (suc k) (b ∷ bs) e =
     (λ many. more b bs k (many .0) (many .2) (span-each P last more k bs (many .2)))
     (span-back b bs (suc k) e)
 
-pub span-length : (bs : List ℕ) → span bs ≤ length bs
+span-length : (bs : List ℕ) → span bs ≤ length bs
 span-length bs =
     ⊎-elim
     (λ none. omega arith)
@@ -190,7 +133,7 @@ malformed≢decoded : (n k : ℕ) → malformed ≡ decoded n k → ⊥
 malformed≢decoded n k e = let z : _≡_ {A = ℕ} 0 1 = cc in omega arith
 
 -- what is in order is within the limit and stands as it is written
-pub judged-back : (bs : List ℕ) (n k : ℕ) → judged bs ≡ decoded n k
+judged-back : (bs : List ℕ) (n k : ℕ) → judged bs ≡ decoded n k
     → (n ≤ largest) × (encode n ≡ bs) × (k ≡ length bs)
 judged-back bs n k = cond-both (leb (value bs) largest && same (encode (value bs)) bs)
     (decoded (value bs) (length bs)) malformed

@@ -1,6 +1,6 @@
 -- What a reader that looks for the last byte first may conclude: where the number ends, what it is worth,
 -- and whether it is in order. Assumes nothing.
-use mathlib.Core.Bool.{true, false, cond, _&&_}
+use mathlib.Core.Bool.{true, false, _&&_}
 use mathlib.Core.List.{List, [], _∷_}
 use mathlib.Core.Logic.{⊎-elim}
 use mathlib.Core.Path.{_≡_, refl, sym, ap, subst, _∙_}
@@ -10,14 +10,14 @@ use native.Mathlib.Omega.{arith}
 use lib.Dec.{ltb, leb, eqb}
 use lib.ListN.{length, take, drop, getD}
 use Rattle.std.proofs.shelf.Lists.{drop-more, getD-drop, getD-take, length-drop}
-use Rattle.std.proofs.shelf.Tests.{and-cases, and-parts, cases-bool, cond-true, cond-false}
-use Rattle.std.proofs.shelf.Tests.{eqb-true, eqb-false, le-ltb, leb-true, lt-ltb, ltb-true, ltb-false}
+use Rattle.std.proofs.shelf.Tests.{and-cases, and-parts, cases-bool, cond-false}
+use Rattle.std.proofs.shelf.Tests.{eqb-true, eqb-false, leb-true, ltb-true, ltb-false}
 use Rattle.varint.specs.Ending.{Ends, padded}
 use Rattle.varint.specs.Encode.{encode, groups, largest}
 use Rattle.varint.specs.Decode.{malformed, decoded, one-more, span, value, same, judged, decode}
-use Rattle.varint.proofs.Laws.{groups-less, groups-more, encode-each, length-encode}
-use Rattle.varint.proofs.Laws.{span-last, span-more, span-suc, span-each}
-use Rattle.varint.proofs.Laws.{same-true, judged-yes, decode-some, length-span}
+use Rattle.varint.proofs.Groups.{groups-less, groups-more, encode-each}
+use Rattle.varint.proofs.Laws.{length-encode, span-last, span-more, span-suc, span-each, length-span}
+use Rattle.varint.proofs.Laws.{same-true, judged-yes, decode-some}
 
 -- span
 
@@ -200,12 +200,11 @@ module _ {bytes : List ℕ} {at last : ℕ} (ends : Ends bytes at last) where
       let large : largest < value number = omega arith
       in decode-large (drop at bytes) (omega arith) (rw (ends .spans) large)
 
-  pub shortest-at : (v : ℕ) → v ≡ value number → v ≤ largest → last - at + 1 ≤ 5
+  pub shortest-at : (v k : ℕ) → v ≡ value number → k ≡ last + 1 - at → v ≤ largest → k ≤ 5
       → padded bytes at last ≡ false → ((i : ℕ) → getD bytes i 0 < 256)
-      → decode (drop at bytes) ≡ decoded v (last - at + 1)
-  shortest-at v e l h f small =
+      → decode (drop at bytes) ≡ decoded v k
+  shortest-at v k is-v is-k l h f small =
       let spans = ends .spans
-      in let long : last + 1 - at ≡ last - at + 1 = omega arith
       in let low : value number ≤ largest = omega arith
       in let is = decode-shortest (last - at) (drop at bytes) span-at (omega arith)
       (λ i. rw getD-drop (small (at + i))) (λ p. rw last-at (last-some f (omega arith))) (rw spans low)

@@ -10,8 +10,7 @@ pub returns-in-rest : need.returns-in-rest
 returns-in-rest c = ap answer (sym (decode-none _ (c .in-rest .ensures tt)))
 
 pub returns-then-length-gt-MOST-BYTES : need.returns-then-length-gt-MOST-BYTES
-returns-then-length-gt-MOST-BYTES c =
-    ap answer (sym (long-at (c .in-Some .ensures tt) (c .if-length-gt-MOST-BYTES .taken)))
+returns-then-length-gt-MOST-BYTES c = ap answer (sym (long-at (c .in-Some .ensures tt) (omega arith)))
 
 pub returns-then-is-padded : need.returns-then-is-padded
 returns-then-is-padded c =
@@ -19,11 +18,11 @@ returns-then-is-padded c =
 
 pub returns-then-value-gt-LARGEST : need.returns-then-value-gt-LARGEST
 returns-then-value-gt-LARGEST c =
-    ap answer (sym (large-at (c .in-Some .ensures tt) _ (c .value-of-value .ensures)
-    (c .if-value-gt-LARGEST .taken)))
+    let ends = c .in-Some .ensures tt
+    in ap answer (sym (large-at ends (c .value-of-value .result) (omega arith) (omega arith)))
 
 pub returns : need.returns
 returns c =
-    ap answer (sym (shortest-at (c .in-Some .ensures tt) _ (c .value-of-value .ensures)
-    (c .if-value-gt-LARGEST .left) (c .if-length-gt-MOST-BYTES .left) (sym (c .if-is-padded .ensures tt))
-    (λ i. c .typed .bytes i .fits)))
+    let ends = c .in-Some .ensures tt
+    in ap answer (sym (shortest-at ends _ _ (omega arith) (omega arith) (omega arith) (omega arith)
+    (sym (c .if-is-padded .ensures tt)) (λ i. c .typed .bytes i .fits)))

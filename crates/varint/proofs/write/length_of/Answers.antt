@@ -2,7 +2,8 @@
 use mathlib.Core.Path.{ap}
 use native.Mathlib.Omega.{arith}
 use lib.ListN.{length}
-use Rattle.varint.proofs.Laws.{encode-less, encode-more, length-encode}
+use Rattle.varint.proofs.Groups.{encode-less, encode-more}
+use Rattle.varint.proofs.Laws.{length-encode}
 use Rattle.varint.proofs.write.length_of.Needs as need
 
 pub add-count : need.add-count

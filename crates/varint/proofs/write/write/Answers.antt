@@ -7,14 +7,13 @@ pub index-out-i : need.index-out-i
 index-out-i c = left-below (c .loop-rest .inv) (omega arith)
 
 pub loop-rest-again : need.loop-rest-again
-loop-rest-again c = left-more (c .loop-rest .inv) (omega arith) (c .loop-rest-test .taken)
+loop-rest-again c =
+    left-more (c .loop-rest .inv) _ _ _
+    (omega arith) (omega arith) (omega arith) (omega arith) (omega arith)
 
 pub index-out-i-2 : need.index-out-i-2
 index-out-i-2 c = left-below (c .loop-rest .inv) (omega arith)
 
 pub returns : need.returns
-returns c = (
-  omega arith,
-  c .length-of-length .ensures,
-  left-all (c .loop-rest .inv) (c .loop-rest-test .left) (omega arith),
-)
+returns c =
+    (omega arith, omega arith, left-all (c .loop-rest .inv) _ (omega arith) (omega arith) (omega arith))

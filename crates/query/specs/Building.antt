@@ -1,0 +1,25 @@
+-- What the builder knows of the query that comes in. Assumes nothing.
+--     Tracks b d    the builder b knows the variables of the draft d, and keeps d if it keeps anything
+use mathlib.Core.Path.{_≡_}
+use Prim.Native.Nat.{ℕ, _<_}
+use lib.ListN.{length, getD}
+use Rattle.query.specs.declared.builder.Builder.{Builder}
+use Rattle.query.specs.declared.variables.VariableSet.{VariableSet}
+use Rattle.query.specs.Parts.{Part}
+use Rattle.query.specs.Lawful.{some, shares}
+use Rattle.query.specs.Variables.{Gathers}
+use Rattle.query.specs.Grammar.{Used}
+use Rattle.query.specs.Drafts.{Draft, Keeps}
+
+-- the builder knows the variables of each part in work, and whether blocks shared one, and keeps the draft if anything
+pub record Tracks (b : Builder) (d : Draft) : Type 0 where
+  pub part : Gathers (b .part) (d .triples)
+  pub required : Gathers (b .required) (d .required)
+  pub counted : b .count ≡ length (d .blocks)
+  pub blocks : (k : ℕ) (s : VariableSet) (p : Part) → k < length (d .blocks) → Gathers (getD (b .blocks) k s) (getD (d .blocks) k p .triples)
+  pub shared : b .shared ≡ some shares (d .done)
+  pub kept : Keeps (b .kept) d
+
+-- how many triples and nodes the builder has counted
+abbrev pub used-of : Builder → Used
+used-of b = record { triples = b .triples; nodes = b .nodes }

@@ -1,0 +1,112 @@
+//! Building a query from the steps in which it comes in.
+ghost use mathlib.Core.Path.{_≡_};
+ghost use Prim.Native.Nat.{_<_};
+ghost use Rattle.query.specs.Building.{Tracks, used-of};
+ghost use Rattle.query.specs.Drafts.{Draft, fresh, stepped, Keeps};
+ghost use Rattle.query.specs.Grammar.{room, unused, with-triples, with-nodes};
+ghost use Rattle.query.specs.declared.step.Step.the-variants.{Triple, Node as NodeStep, EndRequired, EndBlock, EndAlternative};
+use crate::builder::Builder;
+use crate::keep::keep;
+use crate::kept::Kept;
+use crate::node::Node;
+use crate::pattern::TriplePattern;
+use crate::sharing::shares;
+use crate::step::Step;
+use crate::variables::VariableSet;
+
+/// The most triples of one part, and the most nodes of one filter.
+pub(crate) const MOST_IN_PART: u32 = 16;
+
+/// The most triples, and apart from them the most filter nodes, of a whole query.
+const MOST_IN_ALL: u32 = 64;
+
+impl Builder {
+    /// Nothing has come in; `kept` is where parts are kept, if they are, and holds none yet.
+    pub(crate) fn new(kept: Option<Kept>) -> Builder
+        requires { ⌜ Keeps kept fresh ⌝ }
+        ensures tracks { λ r. ⌜ Tracks r fresh ⌝ }
+        ensures used { λ r. ⌜ used-of r ≡ unused ⌝ }
+    {
+        let none = VariableSet::empty();
+        Builder {
+            triples: 0,
+            nodes: 0,
+            part: none,
+            required: none,
+            blocks: [none; 4],
+            count: 0,
+            shared: false,
+            kept,
+        }
+    }
+
+    /// How many triples a part may have now.
+    pub(crate) fn triple_room(&self) -> u32
+        ensures { λ r. ⌜ r ≡ room (now (self .entry) .triples) ⌝ }
+    {
+        MOST_IN_PART.min(MOST_IN_ALL - self.triples)
+    }
+
+    /// How many nodes a filter may have now.
+    pub(crate) fn node_room(&self) -> u32
+        ensures { λ r. ⌜ r ≡ room (now (self .entry) .nodes) ⌝ }
+    {
+        MOST_IN_PART.min(MOST_IN_ALL - self.nodes)
+    }
+
+    /// A triple of the part in work.
+    pub(crate) fn triple(&mut self, triple: TriplePattern)
+        requires { ⌜ now self .triples < 64 ⌝ }
+        ensures tracks { λ _. ⌜ ((d : Draft) → Tracks (now (self .entry)) d → Tracks (now (self .exit)) (stepped d (Triple triple))) ⌝ }
+        ensures used { λ _. ⌜ used-of (now (self .exit)) ≡ with-triples (used-of (now (self .entry))) 1 ⌝ }
+    {
+        self.triples += 1;
+        self.part.add_triple(&triple);
+        keep(&mut self.kept, Step::Triple(triple));
+    }
+
+    /// A node of the filter in work.
+    pub(crate) fn node(&mut self, node: Node)
+        requires { ⌜ now self .nodes < 64 ⌝ }
+        ensures tracks { λ _. ⌜ ((d : Draft) → Tracks (now (self .entry)) d → Tracks (now (self .exit)) (stepped d (NodeStep node))) ⌝ }
+        ensures used { λ _. ⌜ used-of (now (self .exit)) ≡ with-nodes (used-of (now (self .entry))) 1 ⌝ }
+    {
+        self.nodes += 1;
+        keep(&mut self.kept, Step::Node(node));
+    }
+
+    /// The triples in work are the required ones.
+    pub(crate) fn end_required(&mut self)
+        ensures tracks { λ _. ⌜ ((d : Draft) → Tracks (now (self .entry)) d → Tracks (now (self .exit)) (stepped d EndRequired)) ⌝ }
+        ensures used { λ _. ⌜ used-of (now (self .exit)) ≡ used-of (now (self .entry)) ⌝ }
+    {
+        self.required = self.part;
+        self.part = VariableSet::empty();
+        keep(&mut self.kept, Step::EndRequired);
+    }
+
+    /// The triples and the filter in work are a block.
+    pub(crate) fn end_block(&mut self)
+        requires { ⌜ now self .count < 4 ⌝ }
+        ensures tracks { λ _. ⌜ ((d : Draft) → Tracks (now (self .entry)) d → Tracks (now (self .exit)) (stepped d EndBlock)) ⌝ }
+        ensures used { λ _. ⌜ used-of (now (self .exit)) ≡ used-of (now (self .entry)) ⌝ }
+    {
+        self.blocks[self.count] = self.part;
+        self.count += 1;
+        self.part = VariableSet::empty();
+        keep(&mut self.kept, Step::EndBlock);
+    }
+
+    /// The required triples, the blocks and the filter in work are an alternative.
+    pub(crate) fn end_alternative(&mut self)
+        ensures tracks { λ _. ⌜ ((d : Draft) → Tracks (now (self .entry)) d → Tracks (now (self .exit)) (stepped d EndAlternative)) ⌝ }
+        ensures used { λ _. ⌜ used-of (now (self .exit)) ≡ used-of (now (self .entry)) ⌝ }
+    {
+        let blocks = self.blocks;
+        let found = shares(&self.required, &blocks[0..self.count]);
+        self.shared = self.shared || found;
+        self.required = VariableSet::empty();
+        self.count = 0;
+        keep(&mut self.kept, Step::EndAlternative);
+    }
+}
