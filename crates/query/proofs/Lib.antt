@@ -8,4 +8,5 @@ pub mod Parts  -- lists, blocks and alternatives, each with its writing
 pub mod Clashes  -- blocks that share a variable
 pub mod Drafts  -- what is kept while a query is read
 pub mod Building  -- what the builder knows
+pub mod Loops  -- items read one by one
 pub mod Verdicts  -- what follows for whole byte strings

@@ -1,15 +1,22 @@
 -- What the calls answer. Assumes nothing.
---     ahead p c      what the reader p makes of the bytes from the cursor c on
---     Reads m r c    r and the cursor c after it are what m says
-use mathlib.Core.List.{List}
+--     ahead p c        what the reader p makes of the bytes from the cursor c on
+--     Reads m r c      r and the cursor c after it are what m says
+--     Takes m r c K    the part that m says came in, and K holds of it; or r is the refusal that m says
+use mathlib.Core.List.{List, [], _++_}
 use mathlib.Core.Path.{_≡_}
 use Prim.Native.Nat.{ℕ}
 use lib.ListN.{drop}
 use Rattle.std.specs.declared.result.Result.{Result}
 use Rattle.std.specs.declared.result.Result.the-variants.{Ok, Err}
 use Rattle.refusal.specs.declared.rejection.Rejection.{Rejection}
+use Rattle.query.specs.declared.builder.Builder.{Builder}
 use Rattle.query.specs.declared.cursor.Cursor.{Cursor}
-use Rattle.query.specs.Grammar.{Read, took, refused, Reader}
+use Rattle.query.specs.declared.node.Node.{Node}
+use Rattle.query.specs.declared.pattern.TriplePattern.{TriplePattern}
+use Rattle.query.specs.Parts.{Part, Group}
+use Rattle.query.specs.Grammar.{Read, took, refused, Reader, Used}
+use Rattle.query.specs.Drafts.{Draft}
+use Rattle.query.specs.Building.{Tracks, used-of}
 
 -- what the reader makes of the bytes from the cursor on
 abbrev pub ahead : {A : Type 0} → Reader A → Cursor → Read A
@@ -19,3 +26,27 @@ ahead p c = p (c .at) (drop (c .at) (c .bytes .now))
 abbrev pub Reads : {A : Type 0} → Read A → Result A Rejection → Cursor → Type 0
 Reads m (Ok a) c = m ≡ took a (c .at) (drop (c .at) (c .bytes .now))
 Reads m (Err e) c = m ≡ refused (e .refusal) (e .place)
+
+-- a part of which K holds, with the cursor behind it; or the refusal with its place
+abbrev pub Takes : {A T : Type 0} → Read A → Result T Rejection → Cursor → (A → Type 0) → Type 0
+Takes {A} m (Ok _) c K = (a : A) × ((m ≡ took a (c .at) (drop (c .at) (c .bytes .now))) × K a)
+Takes m (Err e) c K = m ≡ refused (e .refusal) (e .place)
+
+-- the builder tracks the draft and has counted so much
+pub record Holds (b : Builder) (d : Draft) (u : Used) : Type 0 where
+  pub tracks : Tracks b d
+  pub used : used-of b ≡ u
+
+-- the draft with these triples more in the part in work
+abbrev pub with-triples-in : Draft → List TriplePattern → Draft
+with-triples-in d ts =
+    record { done = d .done; required = d .required; blocks = d .blocks; triples = d .triples ++ ts; nodes = d .nodes }
+
+-- the draft with these nodes more in the filter in work
+abbrev pub with-nodes-in : Draft → List Node → Draft
+with-nodes-in d ns =
+    record { done = d .done; required = d .required; blocks = d .blocks; triples = d .triples; nodes = d .nodes ++ ns }
+
+-- the draft in which these alternatives, required triples and blocks are finished, and no part is in work
+abbrev pub finished : List Group → List TriplePattern → List Part → Draft
+finished done required blocks = record { done = done; required = required; blocks = blocks; triples = []; nodes = [] }

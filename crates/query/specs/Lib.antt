@@ -3,6 +3,7 @@ pub mod Parts  -- a query as plain lists
 pub mod Codes  -- the numbers of places and of node kinds
 pub mod Format  -- a query's bytes
 pub mod Lawful  -- which queries there are
+pub mod Shape  -- a query by its alternatives
 pub mod Variables  -- sets of variables
 pub mod Grammar  -- what a reader makes of bytes
 pub mod Drafts  -- a query while its parts come in

@@ -1,6 +1,7 @@
 //! Building a query from the steps in which it comes in.
 ghost use mathlib.Core.Path.{_≡_};
 ghost use Prim.Native.Nat.{_<_};
+ghost use lib.ListN.{length};
 ghost use Rattle.query.specs.Building.{Tracks, used-of};
 ghost use Rattle.query.specs.Drafts.{Draft, fresh, stepped, Keeps};
 ghost use Rattle.query.specs.Grammar.{room, unused, with-triples, with-nodes};
@@ -85,14 +86,14 @@ impl Builder {
         keep(&mut self.kept, Step::EndRequired);
     }
 
-    /// The triples and the filter in work are a block.
-    pub(crate) fn end_block(&mut self)
-        requires { ⌜ now self .count < 4 ⌝ }
-        ensures tracks { λ _. ⌜ ((d : Draft) → Tracks (now (self .entry)) d → Tracks (now (self .exit)) (stepped d EndBlock)) ⌝ }
+    /// The triples and the filter in work are block number `number`.
+    pub(crate) fn end_block(&mut self, number: usize)
+        requires { ⌜ number < 4 ⌝ }
+        ensures tracks { λ _. ⌜ ((d : Draft) → number ≡ length (d .blocks) → Tracks (now (self .entry)) d → Tracks (now (self .exit)) (stepped d EndBlock)) ⌝ }
         ensures used { λ _. ⌜ used-of (now (self .exit)) ≡ used-of (now (self .entry)) ⌝ }
     {
-        self.blocks[self.count] = self.part;
-        self.count += 1;
+        self.blocks[number] = self.part;
+        self.count = number + 1;
         self.part = VariableSet::empty();
         keep(&mut self.kept, Step::EndBlock);
     }
