@@ -9,4 +9,5 @@ pub mod Clashes  -- blocks that share a variable
 pub mod Drafts  -- what is kept while a query is read
 pub mod Building  -- what the builder knows
 pub mod Loops  -- items read one by one
+pub mod Scans  -- what has come in so far
 pub mod Verdicts  -- what follows for whole byte strings
