@@ -4,16 +4,20 @@ use mathlib.Core.List.{List, [], _∷_, _++_}
 use mathlib.Core.Path.{_≡_, refl, sym, ap, subst, _∙_}
 use Prim.Native.Nat.{ℕ, zero, suc, _+_, _-_, _<_, _≤_}
 use native.Mathlib.Omega.{arith}
+use lib.Dec.{leb}
 use lib.ListN.{length, drop}
 use Rattle.std.proofs.shelf.Lists.{length-push}
+use Rattle.std.proofs.shelf.Tests.{leb-true, and-parts}
 use Rattle.std.specs.declared.result.Result.{Result}
 use Rattle.std.specs.declared.result.Result.the-variants.{Err}
 use Rattle.refusal.specs.declared.refusal.Refusal.{Refusal}
 use Rattle.refusal.specs.declared.rejection.Rejection.{Rejection}
+use Rattle.varint.specs.Encode.{largest}
 use Rattle.query.specs.declared.cursor.Cursor.{Cursor}
 use Rattle.query.specs.Grammar as grammar
 use Rattle.query.specs.Grammar.{Read, took, refused, Reader, times, series}
 use Rattle.query.specs.Calls.{ahead, Takes}
+use Rattle.query.proofs.Sequences.{count-codec}
 use Rattle.query.proofs.Loops.{prefixed, prefixed-none, times-more, times-refused, times-done, series-took, series-refused}
 
 -- of the count items from the cursor start on, so many came in up to the cursor here, and Held holds of them
@@ -87,6 +91,14 @@ module _ {S A : Type 0} (item : S → Reader A) (step : S → A → S) (state : 
       sofar-stopped r q l t =
           series-refused low high item step (state []) (before .at) (drop (before .at) (before .bytes .now)) count (start .at)
           (drop (start .at) (start .bytes .now)) r q counted (sofar-refused r q l t)
+
+-- count
+
+pub count-high : (low high n : ℕ) (c : Cursor) (after : ℕ) (rest : List ℕ) → high ≤ largest
+    → ahead (grammar.count low high) c ≡ took n after rest → n ≤ high
+count-high low high n c after rest small e =
+    leb-true n high (and-parts (leb low n) (leb n high)
+      (count-codec low high small .only (c .at) (drop (c .at) (c .bytes .now)) n after rest e .0) .1)
 
 -- Takes
 

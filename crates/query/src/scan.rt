@@ -1,11 +1,14 @@
 //! Reading the parts of a query into a builder.
+ghost use mathlib.Core.List.{List, [], _∷_, _++_};
 ghost use mathlib.Core.Path.{_≡_};
-ghost use Prim.Native.Nat.{_≤_};
+ghost use Prim.Native.Nat.{_<_};
 ghost use lib.ListN.{length};
 ghost use Rattle.query.specs.Building.{Tracks, used-of};
-ghost use Rattle.query.specs.Calls.{ahead, Takes, Holds, with-triples-in, with-nodes-in};
+ghost use Rattle.query.specs.Calls.{ahead, Takes, Holds, with-triples-in, with-nodes-in, finished};
 ghost use Rattle.query.specs.Drafts.{Draft};
 ghost use Rattle.query.specs.Grammar as grammar;
+ghost use Rattle.query.specs.Parts.{Part, Group};
+ghost use Rattle.query.specs.declared.pattern.TriplePattern.{TriplePattern as Pattern};
 use crate::builder::Builder;
 use crate::cursor::Cursor;
 use refusal::rejection::Rejection;
@@ -24,6 +27,37 @@ impl<'a> Cursor<'a> {
             let triple = self.triple()?;
             builder.triple(triple);
         }
+        Ok(())
+    }
+
+    /// The nodes of a filter.
+    fn filter(&mut self, builder: &mut Builder) -> Result<(), Rejection>
+        ensures answer { λ r. ⌜ ((d : Draft) → Tracks (now (builder .entry)) d →
+            Takes (ahead (grammar.filter (now (builder .entry) .nodes)) (now (self .entry))) r (now (self .exit))
+            (λ ns. Holds (now (builder .exit)) (with-nodes-in d ns) (grammar.with-nodes (used-of (now (builder .entry))) (length ns)))) ⌝ }
+        ensures same { λ _. ⌜ now (self .exit) .bytes ≡ now (self .entry) .bytes ⌝ }
+    {
+        let count = self.count(0, builder.node_room())?;
+        // Kept: the nodes so far have come in, and the rest of them gives the answer.
+        for number in 0..count {
+            let node = self.node(number)?;
+            builder.node(node);
+        }
+        Ok(())
+    }
+
+    /// Block number `number` of an alternative.
+    fn block(&mut self, builder: &mut Builder, number: usize) -> Result<(), Rejection>
+        requires { ⌜ number < 4 ⌝ }
+        ensures answer { λ r. ⌜ ((done : List Group) (required : List Pattern) (blocks : List Part) → number ≡ length blocks
+            → Tracks (now (builder .entry)) (finished done required blocks) →
+            Takes (ahead (grammar.block (used-of (now (builder .entry)))) (now (self .entry))) r (now (self .exit))
+            (λ b. Holds (now (builder .exit)) (finished done required (blocks ++ b ∷ [])) (grammar.with-part (used-of (now (builder .entry))) b))) ⌝ }
+        ensures same { λ _. ⌜ now (self .exit) .bytes ≡ now (self .entry) .bytes ⌝ }
+    {
+        self.triples(builder, 1)?;
+        self.filter(builder)?;
+        builder.end_block(number);
         Ok(())
     }
 }
