@@ -3,6 +3,7 @@
 use mathlib.Core.List.{List, [], _∷_, _++_}
 use mathlib.Core.Path.{_≡_, refl, sym, ap, subst, _∙_}
 use Prim.Native.Nat.{ℕ, zero, suc, _+_, _-_, _<_, _≤_}
+use native.Mathlib.Nat.{add-zero}
 use native.Mathlib.Omega.{arith}
 use lib.Dec.{leb}
 use lib.ListN.{length, drop}
@@ -15,7 +16,10 @@ use Rattle.refusal.specs.declared.rejection.Rejection.{Rejection}
 use Rattle.varint.specs.Encode.{largest}
 use Rattle.query.specs.declared.cursor.Cursor.{Cursor}
 use Rattle.query.specs.Grammar as grammar
-use Rattle.query.specs.Grammar.{Read, took, refused, Reader, times, series}
+use Rattle.query.specs.Grammar.{Read, took, refused, Reader, times, series, Used, with-part, with-parts}
+use Rattle.query.specs.Lawful.{total}
+use Rattle.query.specs.Parts.{Part}
+use Rattle.query.proofs.Lawful.{total-push}
 use Rattle.query.specs.Calls.{ahead, Takes}
 use Rattle.query.proofs.Sequences.{count-codec}
 use Rattle.query.proofs.Loops.{prefixed, prefixed-none, times-more, times-refused, times-done, series-took, series-refused}
@@ -106,3 +110,21 @@ pub takes-refused : {A T : Type 0} (m : Read A) (r : Result T Rejection) (c : Cu
     → r ≡ Err e → e ≡ f → m ≡ refused (f .refusal) (f .place) → Takes m r c K
 takes-refused m r c K e f is same h =
     subst (λ x. Takes m x c K) (sym (is ∙ ap Err same)) h
+
+-- Used
+
+pub same-used : {t t′ n n′ : ℕ} → t ≡ t′ → n ≡ n′ → _≡_ {A = Used} (record { triples = t; nodes = n }) (record { triples = t′; nodes = n′ })
+same-used a b = cc
+
+pub parts-none : (u : Used) → with-parts u [] ≡ u
+parts-none u = same-used (add-zero (u .triples)) (add-zero (u .nodes))
+
+pub parts-push : (u : Used) (bs : List Part) (b : Part) → with-parts u (bs ++ b ∷ []) ≡ with-part (with-parts u bs) b
+parts-push u bs b =
+    let t = total-push (λ x. length (x .triples)) bs b in
+    let n = total-push (λ x. length (x .filter)) bs b in
+    let triples : u .triples + total (λ x. length (x .triples)) (bs ++ b ∷ []) ≡ u .triples + total (λ x. length (x .triples)) bs + length (b .triples) =
+      omega (arith, t) in
+    let nodes : u .nodes + total (λ x. length (x .filter)) (bs ++ b ∷ []) ≡ u .nodes + total (λ x. length (x .filter)) bs + length (b .filter) =
+      omega (arith, n) in
+    same-used triples nodes

@@ -150,6 +150,10 @@ with-triples u n = record { triples = u .triples + n; nodes = u .nodes }
 abbrev pub nodes-after : Used → List Part → ℕ
 nodes-after u bs = u .nodes + total (λ b. length (b .filter)) bs
 
+-- what is used with these blocks more
+abbrev pub with-parts : Used → List Part → Used
+with-parts u bs = record { triples = u .triples + total (λ b. length (b .triples)) bs; nodes = nodes-after u bs }
+
 -- what is used with so many nodes more
 abbrev pub with-nodes : Used → ℕ → Used
 with-nodes u n = record { triples = u .triples; nodes = u .nodes + n }

@@ -13,6 +13,12 @@ use crate::builder::Builder;
 use crate::cursor::Cursor;
 use refusal::rejection::Rejection;
 
+/// The most blocks of an alternative.
+const MOST_BLOCKS: u32 = 4;
+
+/// The most alternatives of a query.
+const MOST_ALTERNATIVES: u32 = 8;
+
 impl<'a> Cursor<'a> {
     /// At least `least` triples of a part.
     fn triples(&mut self, builder: &mut Builder, least: u32) -> Result<(), Rejection>
@@ -58,6 +64,37 @@ impl<'a> Cursor<'a> {
         self.triples(builder, 1)?;
         self.filter(builder)?;
         builder.end_block(number);
+        Ok(())
+    }
+
+    /// The blocks of an alternative.
+    fn blocks(&mut self, builder: &mut Builder) -> Result<(), Rejection>
+        ensures answer { λ r. ⌜ ((done : List Group) (required : List Pattern)
+            → Tracks (now (builder .entry)) (finished done required []) →
+            Takes (ahead (grammar.blocks (used-of (now (builder .entry)))) (now (self .entry))) r (now (self .exit))
+            (λ bs. Holds (now (builder .exit)) (finished done required bs) (grammar.with-parts (used-of (now (builder .entry))) bs))) ⌝ }
+        ensures same { λ _. ⌜ now (self .exit) .bytes ≡ now (self .entry) .bytes ⌝ }
+    {
+        let count = self.count(0, MOST_BLOCKS)?;
+        // Kept: the blocks so far have come in, and the rest of them gives the answer.
+        for number in 0..count {
+            self.block(builder, number as usize)?;
+        }
+        Ok(())
+    }
+
+    /// An alternative.
+    fn alternative(&mut self, builder: &mut Builder) -> Result<(), Rejection>
+        ensures answer { λ r. ⌜ ((done : List Group) → Tracks (now (builder .entry)) (finished done [] []) →
+            Takes (ahead (grammar.alternative (used-of (now (builder .entry)))) (now (self .entry))) r (now (self .exit))
+            (λ g. Holds (now (builder .exit)) (finished (done ++ g ∷ []) [] []) (grammar.with-group (used-of (now (builder .entry))) g))) ⌝ }
+        ensures same { λ _. ⌜ now (self .exit) .bytes ≡ now (self .entry) .bytes ⌝ }
+    {
+        self.triples(builder, 0)?;
+        builder.end_required();
+        self.blocks(builder)?;
+        self.filter(builder)?;
+        builder.end_alternative();
         Ok(())
     }
 }
