@@ -11,3 +11,4 @@ pub mod Building  -- what the builder knows
 pub mod Loops  -- items read one by one
 pub mod Scans  -- what has come in so far
 pub mod Verdicts  -- what follows for whole byte strings
+pub mod Outcomes  -- what follows for reading

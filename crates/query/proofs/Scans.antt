@@ -16,9 +16,9 @@ use Rattle.refusal.specs.declared.rejection.Rejection.{Rejection}
 use Rattle.varint.specs.Encode.{largest}
 use Rattle.query.specs.declared.cursor.Cursor.{Cursor}
 use Rattle.query.specs.Grammar as grammar
-use Rattle.query.specs.Grammar.{Read, took, refused, Reader, times, series, Used, with-part, with-parts}
-use Rattle.query.specs.Lawful.{total}
-use Rattle.query.specs.Parts.{Part}
+use Rattle.query.specs.Grammar.{Read, took, refused, Reader, times, series, Used, with-part, with-parts, with-group}
+use Rattle.query.specs.Lawful.{total, triples-in, nodes-in}
+use Rattle.query.specs.Parts.{Part, Group}
 use Rattle.query.proofs.Lawful.{total-push}
 use Rattle.query.specs.Calls.{ahead, Takes}
 use Rattle.query.proofs.Sequences.{count-codec}
@@ -128,3 +128,10 @@ parts-push u bs b =
     let nodes : u .nodes + total (λ x. length (x .filter)) (bs ++ b ∷ []) ≡ u .nodes + total (λ x. length (x .filter)) bs + length (b .filter) =
       omega (arith, n) in
     same-used triples nodes
+
+-- what these alternatives use
+abbrev pub with-groups : List Group → Used
+with-groups q = record { triples = total triples-in q; nodes = total nodes-in q }
+
+pub groups-push : (q : List Group) (g : Group) → with-groups (q ++ g ∷ []) ≡ with-group (with-groups q) g
+groups-push q g = same-used (total-push triples-in q g) (total-push nodes-in q g)

@@ -6,7 +6,7 @@ use mathlib.Core.Path.{_≡_, refl, sym, ap, subst, _∙_}
 use Prim.Native.Nat.{ℕ, zero, suc, _+_, _-_, _≤_, _<_}
 use native.Mathlib.Omega.{arith}
 use lib.ListN.{length, take, drop}
-use Rattle.std.proofs.shelf.Lists.{append-nil, take-at, take-append-drop, length-append}
+use Rattle.std.proofs.shelf.Lists.{append-nil, take-at, take-append-drop, drop-more, drop-all}
 use Rattle.std.proofs.shelf.Tests.{and-parts, and-from, cases-bool, not-true, not-from-false}
 use Rattle.varint.specs.Decode.{span}
 use Rattle.refusal.specs.declared.refusal.Refusal.{Refusal}
@@ -18,6 +18,30 @@ use Rattle.query.specs.Grammar.{Read, took, refused, alternatives, Verdict, ac
 use Rattle.query.specs.Theorems.{Accepted-exactly, One-writing-each, by-number, number-end, Refused-for-good}
 use Rattle.query.proofs.Readers.{Stops}
 use Rattle.query.proofs.Parts.{alternatives-codec}
+
+-- verdict
+
+pub verdict-refused : (bytes : List ℕ) (r : Refusal) (at : ℕ) → alternatives 0 bytes ≡ refused r at → verdict bytes ≡ rejected r at
+unfolding verdict
+verdict-refused bytes r at e = ap concluded e
+
+pub verdict-left : (bytes : List ℕ) (q : List Group) (at : ℕ) → alternatives 0 bytes ≡ took q at (drop at bytes) → at < length bytes
+    → verdict bytes ≡ rejected BytesLeft at
+unfolding verdict
+verdict-left bytes q at e l = ap concluded (e ∙ ap (took q at) (drop-more bytes at 0 l))
+
+verdict-all : (bytes : List ℕ) (q : List Group) (at : ℕ) → alternatives 0 bytes ≡ took q at (drop at bytes) → length bytes ≤ at
+    → verdict bytes ≡ cond (some shares q) (rejected SharedByBlocks at) (accepted q)
+unfolding verdict
+verdict-all bytes q at e l = ap concluded (e ∙ ap (took q at) (drop-all at bytes l))
+
+pub verdict-shared : (bytes : List ℕ) (q : List Group) (at : ℕ) → alternatives 0 bytes ≡ took q at (drop at bytes) → length bytes ≤ at
+    → some shares q ≡ true → verdict bytes ≡ rejected SharedByBlocks at
+verdict-shared bytes q at e l s = verdict-all bytes q at e l ∙ ap (λ b. cond b (rejected SharedByBlocks at) (accepted q)) s
+
+pub verdict-accepted : (bytes : List ℕ) (q : List Group) (at : ℕ) → alternatives 0 bytes ≡ took q at (drop at bytes) → length bytes ≤ at
+    → some shares q ≡ false → verdict bytes ≡ accepted q
+verdict-accepted bytes q at e l s = verdict-all bytes q at e l ∙ ap (λ b. cond b (rejected SharedByBlocks at) (accepted q)) s
 
 -- accepted
 

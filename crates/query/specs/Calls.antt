@@ -14,7 +14,7 @@ use Rattle.query.specs.declared.cursor.Cursor.{Cursor}
 use Rattle.query.specs.declared.node.Node.{Node}
 use Rattle.query.specs.declared.pattern.TriplePattern.{TriplePattern}
 use Rattle.query.specs.Parts.{Part, Group}
-use Rattle.query.specs.Grammar.{Read, took, refused, Reader, Used}
+use Rattle.query.specs.Grammar.{Read, took, refused, Reader, Used, accepted, rejected, verdict}
 use Rattle.query.specs.Drafts.{Draft}
 use Rattle.query.specs.Building.{Tracks, used-of}
 
@@ -50,3 +50,8 @@ with-nodes-in d ns =
 -- the draft in which these alternatives, required triples and blocks are finished, and no part is in work
 abbrev pub finished : List Group → List TriplePattern → List Part → Draft
 finished done required blocks = record { done = done; required = required; blocks = blocks; triples = []; nodes = [] }
+
+-- the byte string is a query, and the builder tracks it; or it is refused
+abbrev pub Scanned : {T : Type 0} → List ℕ → Result T Rejection → Builder → Type 0
+Scanned bytes (Ok _) b = (q : List Group) × ((verdict bytes ≡ accepted q) × Tracks b (finished q [] []))
+Scanned bytes (Err e) b = verdict bytes ≡ rejected (e .refusal) (e .place)

@@ -10,3 +10,4 @@ pub mod Drafts  -- a query while its parts come in
 pub mod Building  -- what the builder knows
 pub mod Calls  -- what the calls answer
 pub mod Theorems  -- what this crate proves
+pub mod Reads  -- what reading a byte string answers

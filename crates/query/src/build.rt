@@ -110,4 +110,12 @@ impl Builder {
         self.count = 0;
         keep(&mut self.kept, Step::EndAlternative);
     }
+
+    /// The parts that are kept, if they are.
+    pub(crate) fn into_kept(self) -> Option<Kept>
+        ensures { λ r. ⌜ r ≡ self .kept ⌝ }
+    {
+        let Builder { triples: _, nodes: _, part: _, required: _, blocks: _, count: _, shared: _, kept } = self;
+        kept
+    }
 }

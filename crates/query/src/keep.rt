@@ -1,12 +1,17 @@
 //! Keeping the parts of a query as they come in. Each call says whether there was memory for it.
 ghost use mathlib.Core.Bool.{true};
 ghost use mathlib.Core.Path.{_≡_};
+ghost use lib.ListN.{length};
+ghost use Rattle.query.specs.Format.{bytes-of};
+ghost use Rattle.query.specs.Lawful.{lawful};
+ghost use Rattle.query.specs.Shape.{shape};
 ghost use Rattle.query.specs.Drafts.{fresh, with-triple, with-node, required-ended, block-ended, alternative-ended, draft-of, stepped, Draft, Keeps};
 use crate::alternative::Alternative;
 use crate::block::Block;
 use crate::kept::Kept;
 use crate::node::Node;
 use crate::pattern::TriplePattern;
+use crate::query::Query;
 use crate::step::Step;
 use std::alloc::Global;
 use std::mem;
@@ -64,6 +69,16 @@ impl Kept {
         let blocks = mem::replace(&mut self.blocks, Vec::new(self.heap));
         let filter = mem::replace(&mut self.nodes, Vec::new(self.heap));
         self.done.push(Alternative { required, blocks, filter }).is_ok()
+    }
+
+    /// The query whose alternatives have come in, and which takes `size` bytes.
+    pub(crate) fn finish(self, size: usize) -> Query
+        requires keeps { ⌜ lawful (draft-of self .done) ≡ true ⌝ }
+        requires measured { ⌜ size ≡ length (bytes-of (draft-of self .done)) ⌝ }
+        ensures { λ r. ⌜ shape r ≡ draft-of self .done ⌝ }
+    {
+        let Kept { heap: _, done, required: _, blocks: _, triples: _, nodes: _ } = self;
+        Query { alternatives: done, size }
     }
 
     /// Takes one step; false where there is no memory for it.

@@ -4,13 +4,14 @@ ghost use mathlib.Core.Path.{_≡_};
 ghost use Prim.Native.Nat.{_<_};
 ghost use lib.ListN.{length};
 ghost use Rattle.query.specs.Building.{Tracks, used-of};
-ghost use Rattle.query.specs.Calls.{ahead, Takes, Holds, with-triples-in, with-nodes-in, finished};
+ghost use Rattle.query.specs.Calls.{ahead, Takes, Holds, with-triples-in, with-nodes-in, finished, Scanned};
 ghost use Rattle.query.specs.Drafts.{Draft};
 ghost use Rattle.query.specs.Grammar as grammar;
 ghost use Rattle.query.specs.Parts.{Part, Group};
 ghost use Rattle.query.specs.declared.pattern.TriplePattern.{TriplePattern as Pattern};
 use crate::builder::Builder;
 use crate::cursor::Cursor;
+use refusal::refusal::Refusal;
 use refusal::rejection::Rejection;
 
 /// The most blocks of an alternative.
@@ -97,4 +98,35 @@ impl<'a> Cursor<'a> {
         builder.end_alternative();
         Ok(())
     }
+
+    /// The alternatives of a query.
+    fn alternatives(&mut self, builder: &mut Builder) -> Result<(), Rejection>
+        ensures answer { λ r. ⌜ (Holds (now (builder .entry)) (finished [] [] []) grammar.unused →
+            Takes (ahead grammar.alternatives (now (self .entry))) r (now (self .exit))
+            (λ q. Tracks (now (builder .exit)) (finished q [] []))) ⌝ }
+        ensures same { λ _. ⌜ now (self .exit) .bytes ≡ now (self .entry) .bytes ⌝ }
+    {
+        let count = self.count(1, MOST_ALTERNATIVES)?;
+        // Kept: the alternatives so far have come in, and the rest of them gives the answer.
+        for _number in 0..count {
+            self.alternative(builder)?;
+        }
+        Ok(())
+    }
+}
+
+/// Reads the whole byte string into the builder, or says why it is no query.
+pub(crate) fn scan(bytes: &[u8], builder: &mut Builder) -> Result<(), Rejection>
+    ensures { λ r. ⌜ (Holds (now (builder .entry)) (finished [] [] []) grammar.unused → Scanned (now (bytes .entry)) r (now (builder .exit))) ⌝ }
+{
+    let mut cursor = Cursor { bytes, at: 0 };
+    cursor.alternatives(builder)?;
+    let place = cursor.at;
+    if place < bytes.len() {
+        return Err(Rejection { refusal: Refusal::BytesLeft, place });
+    }
+    if builder.shared {
+        return Err(Rejection { refusal: Refusal::SharedByBlocks, place });
+    }
+    Ok(())
 }
