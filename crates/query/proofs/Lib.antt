@@ -11,4 +11,6 @@ pub mod Building  -- what the builder knows
 pub mod Loops  -- items read one by one
 pub mod Scans  -- what has come in so far
 pub mod Verdicts  -- what follows for whole byte strings
+pub mod Writes  -- bytes placed in a buffer
+pub mod Sound  -- what writing asks of a lawful query
 pub mod Outcomes  -- what follows for reading

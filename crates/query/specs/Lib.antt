@@ -11,3 +11,4 @@ pub mod Building  -- what the builder knows
 pub mod Calls  -- what the calls answer
 pub mod Theorems  -- what this crate proves
 pub mod Reads  -- what reading a byte string answers
+pub mod Writes  -- what writing does to a buffer
