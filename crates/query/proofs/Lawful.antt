@@ -1,16 +1,18 @@
 -- Laws of the tests over lists that make a query lawful. Assumes nothing.
 use mathlib.Core.Bool.{Bool, true, false, not, _&&_, _||_}
-use mathlib.Core.List.{List, [], _∷_, _++_}
+use mathlib.Core.List.{List, [], _∷_, _++_, map}
 use mathlib.Core.Logic.{⊎-elim}
 use mathlib.Core.Path.{_≡_, refl, sym, ap, _∙_}
-use Prim.Native.Nat.{ℕ, zero, suc, _+_, _<_}
+use Prim.Native.Nat.{ℕ, zero, suc, _+_, _*_, _<_, _≤_}
+use native.Mathlib.Nat.{mul-suc}
 use native.Mathlib.Omega.{arith}
-use lib.ListN.{length, getD}
+use lib.ListN.{length, getD, drop}
+use Rattle.std.proofs.shelf.Lists.{at-drop-more, at-drop-all}
 use Rattle.std.proofs.shelf.Tests.{and-parts, and-from, or-cases, or-left, or-right}
 use Rattle.std.proofs.shelf.Ways.{decides-below-or}
 use Rattle.std.specs.Orderings.{Decides}
 use Rattle.query.specs.Parts.{Group}
-use Rattle.query.specs.Lawful.{some, in-two, total, mentions, shared-below, shares}
+use Rattle.query.specs.Lawful.{every, some, in-two, total, mentions, shared-below, shares}
 
 -- ||
 
@@ -103,3 +105,28 @@ shares-decides g =
 pub total-push : {A : Type 0} (f : A → ℕ) (xs : List A) (x : A) → total f (xs ++ x ∷ []) ≡ total f xs + f x
 total-push f [] x = omega arith
 total-push f (y ∷ xs) x = omega (arith, total-push f xs x)
+
+pub total-next : {A : Type 0} (f : A → ℕ) (xs : List A) (i : ℕ) (x : A) → i < length xs → x ≡ getD xs i x
+    → total f (drop i xs) ≡ f x + total f (drop (i + 1) xs)
+total-next f xs i x l is = at-drop-more (total f) xs i x l ∙ ap (λ y. f y + total f (drop (i + 1) xs)) (sym is)
+
+pub total-end : {A : Type 0} (f : A → ℕ) (xs : List A) (i : ℕ) → length xs ≤ i → total f (drop i xs) ≡ 0
+total-end f xs i l = at-drop-all (total f) xs i l
+
+pub total-map : {A B : Type 0} (g : A → B) (f : B → ℕ) (xs : List A) → total f (map g xs) ≡ total (λ x. f (g x)) xs
+total-map g f [] = refl
+total-map g f (x ∷ xs) = ap (λ n. f (g x) + n) (total-map g f xs)
+
+-- an element counts no more than all of them
+pub total-part : {A : Type 0} (f : A → ℕ) (xs : List A) (i : ℕ) (x : A) → i < length xs → x ≡ getD xs i x → f x ≤ total f xs
+total-part f [] i x l is = absurd (omega arith)
+total-part f (y ∷ xs) zero x l is = omega (arith, ap f is)
+total-part f (y ∷ xs) (suc i) x l is = omega (arith, total-part f xs i x (omega arith) is)
+
+-- where each counts at most so much
+pub total-most : {A : Type 0} (f : A → ℕ) (most : ℕ) (ok : A → Bool) (xs : List A) → ((x : A) → ok x ≡ true → f x ≤ most)
+    → every ok xs ≡ true → total f xs ≤ most * length xs
+total-most f most ok [] bound h = omega arith
+total-most f most ok (x ∷ xs) bound h =
+    let w = and-parts (ok x) (every ok xs) h in
+    omega (arith, bound x (w .0), total-most f most ok xs bound (w .1), mul-suc most (length xs))

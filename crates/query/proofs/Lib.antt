@@ -13,4 +13,5 @@ pub mod Scans  -- what has come in so far
 pub mod Verdicts  -- what follows for whole byte strings
 pub mod Writes  -- bytes placed in a buffer
 pub mod Sound  -- what writing asks of a lawful query
+pub mod Counts  -- how much a lawful query holds
 pub mod Outcomes  -- what follows for reading
