@@ -31,15 +31,15 @@ pub blocks-push : (sets : List VariableSet) (parts : List Part) (n : ℕ) (part 
 blocks-push sets parts n part x count room last before k s p l =
     ⊎-elim
     (λ e.
-      subst (λ y. Gathers y (getD (parts ++ x ∷ []) k p .triples))
-        (sym (ap (λ i. getD (set sets n part) i s) e ∙ getD-set-same sets n part s room))
-      (subst (λ y. Gathers part (y .triples))
-        (sym (ap (λ i. getD (parts ++ x ∷ []) i p) e ∙ getD-push parts x p n (sym count))) last))
+    subst (λ y. Gathers y (getD (parts ++ x ∷ []) k p .triples))
+    (sym (ap (λ i. getD (set sets n part) i s) e ∙ getD-set-same sets n part s room))
+    (subst (λ y. Gathers part (y .triples))
+    (sym (ap (λ i. getD (parts ++ x ∷ []) i p) e ∙ getD-push parts x p n (sym count))) last))
     (λ ne.
-      let long = length-push parts x in
-      let old : k < length parts = omega (arith, long, ne) in
-      subst (λ y. Gathers y (getD (parts ++ x ∷ []) k p .triples)) (sym (getD-set-other sets n k part s ne))
-      (subst (λ y. Gathers (getD sets k s) (y .triples)) (sym (getD-append-left parts (x ∷ []) p k old)) (before k s p old)))
+    let long = length-push parts x in
+    let old : k < length parts = omega (arith, long, ne) in
+    subst (λ y. Gathers y (getD (parts ++ x ∷ []) k p .triples)) (sym (getD-set-other sets n k part s ne))
+    (subst (λ y. Gathers (getD sets k s) (y .triples)) (sym (getD-append-left parts (x ∷ []) p k old)) (before k s p old)))
     (cases-eq k n)
 
 -- shares
@@ -56,17 +56,20 @@ module _ (required : VariableSet) (sets : List VariableSet) (g : Group) (s : Var
       let ordered = k .ordered in
       let inside : k .second < length (g .blocks) = omega (arith, k .inside, as-many) in
       let a = and-parts (member v (getD sets (k .first) s)) (member v (getD sets (k .second) s) && not (member v required)) (k .clashes s) in
-      let b = and-parts (member v (getD sets (k .second) s)) (not (member v required)) (a .1) in
-      (v, k .known, and-from _ _
-        (in-two-decides (λ b. mentions v (b .triples)) (g .blocks) p .1 (record {
-          first = k .first;
-          second = k .second;
-          ordered = ordered;
-          inside = inside;
-          first-holds = sym (blocks (k .first) s p (omega arith) v (k .known)) ∙ a .0;
-          second-holds = sym (blocks (k .second) s p inside v (k .known)) ∙ b .0;
-        }))
-        (ap not (sym (knows v (k .known))) ∙ b .1))
+      let b = and-parts (member v (getD sets (k .second) s)) (not (member v required)) (a .1) in (
+        v,
+        k .known,
+        and-from _ _
+            (in-two-decides (λ b. mentions v (b .triples)) (g .blocks) p .1 (record {
+              first = k .first;
+              second = k .second;
+              ordered = ordered;
+              inside = inside;
+              first-holds = sym (blocks (k .first) s p (omega arith) v (k .known)) ∙ a .0;
+              second-holds = sym (blocks (k .second) s p inside v (k .known)) ∙ b .0;
+            }))
+            (ap not (sym (knows v (k .known))) ∙ b .1),
+      )
 
   lacking-clash : (v : ℕ) × (v < 16) × (lacking g v ≡ true) → Clash required sets
   lacking-clash (v, l, h) =
@@ -83,7 +86,7 @@ module _ (required : VariableSet) (sets : List VariableSet) (g : Group) (s : Var
         inside = within;
         known = l;
         clashes = λ d. and-from _ _ (blocks (t .first) d p (omega arith) v l ∙ t .first-holds)
-          (and-from _ _ (blocks (t .second) d p inside v l ∙ t .second-holds) (ap not (knows v l) ∙ w .1));
+            (and-from _ _ (blocks (t .second) d p inside v l ∙ t .second-holds) (ap not (knows v l) ∙ w .1));
       }
 
   pub shares-found : (r : Bool) → When r (Clash required sets) (Clash required sets → ⊥) → r ≡ shares g
@@ -98,6 +101,6 @@ shares-front required sets n g r knows many room blocks h =
     shares-found required (take n sets) g required (record { triples = []; filter = [] }) knows
     (length-take-le n sets room ∙ many)
     (λ k s p l.
-      let inside : k < n = omega arith in
-      subst (λ y. Gathers y (getD (g .blocks) k p .triples)) (sym (getD-take n sets k s inside)) (blocks k s p l))
+    let inside : k < n = omega arith in
+    subst (λ y. Gathers y (getD (g .blocks) k p .triples)) (sym (getD-take n sets k s inside)) (blocks k s p l))
     r h

@@ -24,7 +24,7 @@ pub record Sums (xs : List Alternative) : Type 0 where
 few-blocks : (g : Group) → lawful-group g ≡ true → length (g .blocks) ≤ most-blocks
 few-blocks g h =
     let a = and-parts (lawful-triples 0 (g .required))
-      (within 0 most-blocks (length (g .blocks)) && (every lawful-part (g .blocks) && lawful-filter (g .filter))) h in
+    (within 0 most-blocks (length (g .blocks)) && (every lawful-part (g .blocks) && lawful-filter (g .filter))) h in
     let b = and-parts (within 0 most-blocks (length (g .blocks))) (every lawful-part (g .blocks) && lawful-filter (g .filter)) (a .1) in
     leb-true (length (g .blocks)) most-blocks (and-parts (leb 0 (length (g .blocks))) (leb (length (g .blocks)) most-blocks) (b .0) .1)
 
@@ -33,13 +33,17 @@ sums-lawful xs h =
     let gs = map group-of xs in
     let a = and-parts (limited gs) (not (some shares gs)) h in
     let b = and-parts (within 1 most-alternatives (length gs))
-      (every lawful-group gs && (leb (total triples-in gs) most-in-all && leb (total nodes-in gs) most-in-all)) (a .0) in
+    (every lawful-group gs && (leb (total triples-in gs) most-in-all && leb (total nodes-in gs) most-in-all)) (a .0) in
     let c = and-parts (every lawful-group gs) (leb (total triples-in gs) most-in-all && leb (total nodes-in gs) most-in-all) (b .1) in
     let d = and-parts (leb (total triples-in gs) most-in-all) (leb (total nodes-in gs) most-in-all) (c .1) in
     let many = leb-true (length gs) most-alternatives (and-parts (leb 1 (length gs)) (leb (length gs) most-alternatives) (b .0) .1) in
     record {
-      blocks = omega (arith, many, total-most (λ g. length (g .blocks)) most-blocks lawful-group gs few-blocks (c .0),
-        total-map group-of (λ g. length (g .blocks)) xs);
+      blocks = omega (
+        arith,
+        many,
+        total-most (λ g. length (g .blocks)) most-blocks lawful-group gs few-blocks (c .0),
+        total-map group-of (λ g. length (g .blocks)) xs,
+      );
       triples = omega (arith, leb-true (total triples-in gs) most-in-all (d .0), total-map group-of triples-in xs);
       nodes = omega (arith, leb-true (total nodes-in gs) most-in-all (d .1), total-map group-of nodes-in xs);
     }

@@ -17,7 +17,7 @@ use Rattle.query.specs.Grammar.{Used}
 pub same-draft : {p p′ : List Group} {q q′ : List TriplePattern} {r r′ : List Part} {s s′ : List TriplePattern} {t t′ : List Node}
     → p ≡ p′ → q ≡ q′ → r ≡ r′ → s ≡ s′ → t ≡ t′
     → _≡_ {A = Draft} (record { done = p; required = q; blocks = r; triples = s; nodes = t })
-      (record { done = p′; required = q′; blocks = r′; triples = s′; nodes = t′ })
+    (record { done = p′; required = q′; blocks = r′; triples = s′; nodes = t′ })
 same-draft a b c d e = cc
 
 -- what a push that found memory leaves, each element seen by f

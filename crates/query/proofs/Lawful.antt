@@ -69,21 +69,21 @@ in-two-at p [] d h = let z : _≡_ {A = ℕ} 0 1 = cc in absurd (omega arith)
 in-two-at p (x ∷ xs) d h =
     ⊎-elim
     (λ e.
-      let w = and-parts (p x) (some p xs) e in
-      let (j, (l, t)) = some-at p xs d (w .1) in
-      record { first = 0; second = suc j; ordered = omega arith; inside = omega arith; first-holds = w .0; second-holds = t })
+    let w = and-parts (p x) (some p xs) e in
+    let (j, (l, t)) = some-at p xs d (w .1) in
+    record { first = 0; second = suc j; ordered = omega arith; inside = omega arith; first-holds = w .0; second-holds = t })
     (λ e.
-      let t = in-two-at p xs d e in
-      let o = t .ordered in
-      let i = t .inside in
-      record {
-        first = suc (t .first);
-        second = suc (t .second);
-        ordered = omega arith;
-        inside = omega arith;
-        first-holds = t .first-holds;
-        second-holds = t .second-holds;
-      })
+    let t = in-two-at p xs d e in
+    let o = t .ordered in
+    let i = t .inside in
+    record {
+      first = suc (t .first);
+      second = suc (t .second);
+      ordered = omega arith;
+      inside = omega arith;
+      first-holds = t .first-holds;
+      second-holds = t .second-holds;
+    })
     (or-cases (p x && some p xs) (in-two p xs) h)
 
 pub in-two-decides : {A : Type 0} (p : A → Bool) (xs : List A) (d : A) → Decides (in-two p xs) (Two p xs d)

@@ -49,7 +49,7 @@ module _ {S A : Type 0} (item : S → Reader A) (step : S → A → S) (state : 
     -- what is left is one more than what is left after the next
     left-next : taken < count
         → ahead (times count item step (state [])) start
-          ≡ prefixed (s .items) (ahead (times (suc (count - (taken + 1))) item step (state (s .items))) here)
+        ≡ prefixed (s .items) (ahead (times (suc (count - (taken + 1))) item step (state (s .items))) here)
     left-next l =
         let less : count - taken ≡ suc (count - (taken + 1)) = omega arith in
         s .left ∙ ap (λ n. prefixed (s .items) (ahead (times n item step (state (s .items))) here)) less
@@ -63,7 +63,7 @@ module _ {S A : Type 0} (item : S → Reader A) (step : S → A → S) (state : 
       many = omega (arith, length-push (s .items) x, s .many);
       left =
           times-more item step (ahead (times count item step (state [])) start) (s .items) (state (s .items)) (here .at)
-            (drop (here .at) (here .bytes .now)) (count - (taken + 1)) x (there .at) (drop (there .at) (there .bytes .now)) (left-next l) t
+          (drop (here .at) (here .bytes .now)) (count - (taken + 1)) x (there .at) (drop (there .at) (there .bytes .now)) (left-next l) t
           ∙ ap (λ z. prefixed (s .items ++ x ∷ []) (ahead (times (count - (taken + 1)) item step z) there)) (sym e);
       held = h;
     }
@@ -102,7 +102,7 @@ pub count-high : (low high n : ℕ) (c : Cursor) (after : ℕ) (rest : List ℕ)
     → ahead (grammar.count low high) c ≡ took n after rest → n ≤ high
 count-high low high n c after rest small e =
     leb-true n high (and-parts (leb low n) (leb n high)
-      (count-codec low high small .only (c .at) (drop (c .at) (c .bytes .now)) n after rest e .0) .1)
+    (count-codec low high small .only (c .at) (drop (c .at) (c .bytes .now)) n after rest e .0) .1)
 
 -- Takes
 
@@ -124,9 +124,9 @@ parts-push u bs b =
     let t = total-push (λ x. length (x .triples)) bs b in
     let n = total-push (λ x. length (x .filter)) bs b in
     let triples : u .triples + total (λ x. length (x .triples)) (bs ++ b ∷ []) ≡ u .triples + total (λ x. length (x .triples)) bs + length (b .triples) =
-      omega (arith, t) in
+    omega (arith, t) in
     let nodes : u .nodes + total (λ x. length (x .filter)) (bs ++ b ∷ []) ≡ u .nodes + total (λ x. length (x .filter)) bs + length (b .filter) =
-      omega (arith, n) in
+    omega (arith, n) in
     same-used triples nodes
 
 -- what these alternatives use

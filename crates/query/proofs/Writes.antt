@@ -17,8 +17,13 @@ placed-none out at = ap (λ n. take at out ++ drop n out) (add-zero at) ∙ take
 
 pub length-placed : (out : List ℕ) (at : ℕ) (a : List ℕ) → at + length a ≤ length out → length (placed out at a) ≡ length out
 length-placed out at a h =
-    omega (arith, length-append (take at out) (a ++ drop (at + length a) out), length-append a (drop (at + length a) out),
-      length-take-le at out (omega arith), length-drop (at + length a) out)
+    omega (
+      arith,
+      length-append (take at out) (a ++ drop (at + length a) out),
+      length-append a (drop (at + length a) out),
+      length-take-le at out (omega arith),
+      length-drop (at + length a) out,
+    )
 
 pub placed-append : (out : List ℕ) (at : ℕ) (a b : List ℕ) → at + length (a ++ b) ≤ length out
     → placed (placed out at a) (at + length a) b ≡ placed out at (a ++ b)
@@ -30,11 +35,11 @@ placed-append out at a b h =
     let n : length front ≡ at + length a = omega (arith, length-append (take at out) a, length-take-le at out (omega arith)) in
     let first : take (at + length a) (placed out at a) ≡ front = ap (take (at + length a)) whole ∙ take-at front back (at + length a) n in
     let last : drop (at + length a + length b) (placed out at a) ≡ drop (at + length (a ++ b)) out =
-      ap (drop (at + length a + length b)) whole
-      ∙ sym (drop-drop (length b) (at + length a) (front ++ back))
-      ∙ ap (drop (length b)) (drop-at front back (at + length a) n)
-      ∙ drop-drop (length b) (at + length a) out
-      ∙ ap (λ k. drop k out) (omega arith) in
+    ap (drop (at + length a + length b)) whole
+    ∙ sym (drop-drop (length b) (at + length a) (front ++ back))
+    ∙ ap (drop (length b)) (drop-at front back (at + length a) n)
+    ∙ drop-drop (length b) (at + length a) out
+    ∙ ap (λ k. drop k out) (omega arith) in
     ap (λ l. l ++ (b ++ drop (at + length a + length b) (placed out at a))) first
     ∙ ap (λ l. front ++ (b ++ l)) last
     ∙ append-assoc (take at out) a (b ++ drop (at + length (a ++ b)) out)
@@ -45,9 +50,10 @@ placed-append out at a b h =
 -- two writings, one behind the other
 pub put-append : (a b : List ℕ) (at mid end : ℕ) (out then after : List ℕ) → at + length (a ++ b) ≤ length out
     → Put a at out mid then → Put b mid then end after → Put (a ++ b) at out end after
-put-append a b at mid end out then after h p q =
-    (omega (arith, p .0, q .0, length-append a b),
-      q .1 ∙ ap (λ l. placed l mid b) (p .1) ∙ ap (λ k. placed (placed out at a) k b) (p .0) ∙ placed-append out at a b h)
+put-append a b at mid end out then after h p q = (
+  omega (arith, p .0, q .0, length-append a b),
+  q .1 ∙ ap (λ l. placed l mid b) (p .1) ∙ ap (λ k. placed (placed out at a) k b) (p .0) ∙ placed-append out at a b h,
+)
 
 -- a writing leaves the buffer as long as it was
 pub length-put : (a : List ℕ) (at r : ℕ) (out after : List ℕ) → at + length a ≤ length out → Put a at out r after
@@ -90,16 +96,18 @@ module _ {A : Type 0} (code : A → List ℕ) (all : List A) (first : List ℕ) 
     completes-more after there p =
         let rest = joined code (drop (i + 1) all) in
         let long = ap length next-left ∙ length-append (code x) rest in
-        let fit : here + length (code x ++ rest) ≤ length out = omega (arith, c .1, c .2, ap length next-left) in
-        (ap (λ o. placed o there rest) (p .1) ∙ ap (λ n. placed (placed out here (code x)) n rest) (p .0)
-            ∙ placed-append out here (code x) rest fit ∙ ap (placed out here) (sym next-left) ∙ c .0,
+        let fit : here + length (code x ++ rest) ≤ length out = omega (arith, c .1, c .2, ap length next-left) in (
+          ap (λ o. placed o there rest) (p .1) ∙ ap (λ n. placed (placed out here (code x)) n rest) (p .0)
+              ∙ placed-append out here (code x) rest fit ∙ ap (placed out here) (sym next-left) ∙ c .0,
           omega (arith, c .1, p .0, long),
-          length-put (code x) here there out after room-next p ∙ c .2)
+          length-put (code x) here there out after room-next p ∙ c .2,
+        )
 
   -- every element was written
   pub completes-all : (i : ℕ) (out : List ℕ) (here : ℕ) → length all ≤ i → Completes code all (drop i all) first start out here
       → Put (joined code all) start first here out
   completes-all i out here l c =
-      let none = at-drop-all (joined code) all i l in
-      (omega (arith, c .1, ap length none),
-        sym (placed-none out here) ∙ ap (placed out here) (sym none) ∙ c .0)
+      let none = at-drop-all (joined code) all i l in (
+        omega (arith, c .1, ap length none),
+        sym (placed-none out here) ∙ ap (placed out here) (sym none) ∙ c .0,
+      )

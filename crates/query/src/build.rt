@@ -115,7 +115,16 @@ impl Builder {
     pub(crate) fn into_kept(self) -> Option<Kept>
         ensures { λ r. ⌜ r ≡ self .kept ⌝ }
     {
-        let Builder { triples: _, nodes: _, part: _, required: _, blocks: _, count: _, shared: _, kept } = self;
+        let Builder {
+            triples: _,
+            nodes: _,
+            part: _,
+            required: _,
+            blocks: _,
+            count: _,
+            shared: _,
+            kept,
+        } = self;
         kept
     }
 }

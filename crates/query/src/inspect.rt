@@ -54,7 +54,12 @@ impl Query {
             triples += required + inner.0;
             nodes += inner.1 + filter;
         }
-        Counts { alternatives: alternatives.len(), blocks, triples, nodes }
+        Counts {
+            alternatives: alternatives.len(),
+            blocks,
+            triples,
+            nodes,
+        }
     }
 }
 

@@ -68,7 +68,13 @@ impl Kept {
         let required = mem::replace(&mut self.required, Vec::new(self.heap));
         let blocks = mem::replace(&mut self.blocks, Vec::new(self.heap));
         let filter = mem::replace(&mut self.nodes, Vec::new(self.heap));
-        self.done.push(Alternative { required, blocks, filter }).is_ok()
+        self.done
+            .push(Alternative {
+                required,
+                blocks,
+                filter,
+            })
+            .is_ok()
     }
 
     /// The query whose alternatives have come in, and which takes `size` bytes.
@@ -77,8 +83,18 @@ impl Kept {
         requires measured { ⌜ size ≡ length (bytes-of (draft-of self .done)) ⌝ }
         ensures { λ r. ⌜ shape r ≡ draft-of self .done ⌝ }
     {
-        let Kept { heap: _, done, required: _, blocks: _, triples: _, nodes: _ } = self;
-        Query { alternatives: done, size }
+        let Kept {
+            heap: _,
+            done,
+            required: _,
+            blocks: _,
+            triples: _,
+            nodes: _,
+        } = self;
+        Query {
+            alternatives: done,
+            size,
+        }
     }
 
     /// Takes one step; false where there is no memory for it.

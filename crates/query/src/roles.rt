@@ -22,8 +22,14 @@ impl<'a> Cursor<'a> {
                 self.at = place + number.length;
                 Ok(number.value)
             }
-            Err(ReadError::EndsEarly) => Err(Rejection { refusal: Refusal::EndsEarly, place }),
-            Err(ReadError::Malformed) => Err(Rejection { refusal: Refusal::Malformed, place }),
+            Err(ReadError::EndsEarly) => Err(Rejection {
+                refusal: Refusal::EndsEarly,
+                place,
+            }),
+            Err(ReadError::Malformed) => Err(Rejection {
+                refusal: Refusal::Malformed,
+                place,
+            }),
         }
     }
 
@@ -37,7 +43,10 @@ impl<'a> Cursor<'a> {
         if least <= count && count <= most {
             Ok(count)
         } else {
-            Err(Rejection { refusal: Refusal::CountOutside, place })
+            Err(Rejection {
+                refusal: Refusal::CountOutside,
+                place,
+            })
         }
     }
 
@@ -50,7 +59,10 @@ impl<'a> Cursor<'a> {
         let code = self.number()?;
         match Place::from_code(code) {
             Some(read) => Ok(read),
-            None => Err(Rejection { refusal: Refusal::PlaceCode, place }),
+            None => Err(Rejection {
+                refusal: Refusal::PlaceCode,
+                place,
+            }),
         }
     }
 
@@ -64,7 +76,10 @@ impl<'a> Cursor<'a> {
         if variable <= MOST_VARIABLE {
             Ok(variable)
         } else {
-            Err(Rejection { refusal: Refusal::NodeInvalid, place })
+            Err(Rejection {
+                refusal: Refusal::NodeInvalid,
+                place,
+            })
         }
     }
 
@@ -78,7 +93,10 @@ impl<'a> Cursor<'a> {
         if named < node {
             Ok(named)
         } else {
-            Err(Rejection { refusal: Refusal::NodeInvalid, place })
+            Err(Rejection {
+                refusal: Refusal::NodeInvalid,
+                place,
+            })
         }
     }
 
@@ -91,7 +109,10 @@ impl<'a> Cursor<'a> {
         let number = self.number()?;
         match Kind::from_number(number) {
             Some(kind) => Ok(kind),
-            None => Err(Rejection { refusal: Refusal::NodeInvalid, place }),
+            None => Err(Rejection {
+                refusal: Refusal::NodeInvalid,
+                place,
+            }),
         }
     }
 }

@@ -123,10 +123,16 @@ pub(crate) fn scan(bytes: &[u8], builder: &mut Builder) -> Result<(), Rejection>
     cursor.alternatives(builder)?;
     let place = cursor.at;
     if place < bytes.len() {
-        return Err(Rejection { refusal: Refusal::BytesLeft, place });
+        return Err(Rejection {
+            refusal: Refusal::BytesLeft,
+            place,
+        });
     }
     if builder.shared {
-        return Err(Rejection { refusal: Refusal::SharedByBlocks, place });
+        return Err(Rejection {
+            refusal: Refusal::SharedByBlocks,
+            place,
+        });
     }
     Ok(())
 }

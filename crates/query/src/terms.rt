@@ -17,7 +17,11 @@ impl<'a> Cursor<'a> {
         let subject = self.place()?;
         let property = self.place()?;
         let object = self.place()?;
-        Ok(TriplePattern { subject, property, object })
+        Ok(TriplePattern {
+            subject,
+            property,
+            object,
+        })
     }
 
     /// What follows the kind of node number `number`.

@@ -9,6 +9,6 @@ use Rattle.query.proofs.inspect.totals.Given as given
 abbrev pub Inv-loop-block : given.InvT-loop-block
 Inv-loop-block l =
     (l .triples + total (λ b. length (part-of b .triples)) (drop (l .block-index) (l .blocks))
-      ≡ total (λ b. length (part-of b .triples)) (l .blocks))
+    ≡ total (λ b. length (part-of b .triples)) (l .blocks))
     × (l .nodes + total (λ b. length (part-of b .filter)) (drop (l .block-index) (l .blocks))
-      ≡ total (λ b. length (part-of b .filter)) (l .blocks))
+    ≡ total (λ b. length (part-of b .filter)) (l .blocks))

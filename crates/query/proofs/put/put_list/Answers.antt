@@ -24,18 +24,23 @@ fits g c =
     let items = joined (g .T·Coded .code) (c .args .items .now) in
     let long = length-append n items in
     let room : c .args .at + length n ≤ length (c .args .out .now) = omega (arith, c .pre .room, long) in
-    omega (arith, c .pre .room, long, c .put-number-place .ensures .0,
-      length-put n (c .args .at) (c .put-number-place .result) (c .args .out .now) (c .put-number-place .last .out) room (c .put-number-place .ensures))
+    omega (
+      arith,
+      c .pre .room,
+      long,
+      c .put-number-place .ensures .0,
+      length-put n (c .args .at) (c .put-number-place .result) (c .args .out .now) (c .put-number-place .last .out) room (c .put-number-place .ensures),
+    )
 
 pub put-place-requires : need.put-place-requires
 put-place-requires g c κs =
     let xs = c .args .items .now in
     record {
       sound = subst (g .T·Coded .sound) (sym (c .item-item .is))
-        (all-getD (g .T·Coded .sound) xs (c .loop-item .item-index) (c .item-item .result) (c .loop-item-test .taken) (c .pre .sound));
+          (all-getD (g .T·Coded .sound) xs (c .loop-item .item-index) (c .item-item .result) (c .loop-item-test .taken) (c .pre .sound));
       room = room-next (g .T·Coded .code) xs (c .put-number-place .last .out) (c .put-number-place .result)
-        (fits g (need.at·put-place-requires g c .After-put-number-place)) (c .loop-item .item-index) (c .item-item .result) (c .loop-item .out)
-        (c .loop-item .place) (c .loop-item-test .taken) (c .item-item .is) (c .loop-item .inv);
+          (fits g (need.at·put-place-requires g c .After-put-number-place)) (c .loop-item .item-index) (c .item-item .result) (c .loop-item .out)
+          (c .loop-item .place) (c .loop-item-test .taken) (c .item-item .is) (c .loop-item .inv);
     }
 
 pub loop-item-again : need.loop-item-again
@@ -51,5 +56,5 @@ returns g c =
     (c .put-number-place .result) (c .loop-item .place) (c .args .out .now) (c .put-number-place .last .out) (c .loop-item .out)
     (c .pre .room) (c .put-number-place .ensures)
     (completes-all (g .T·Coded .code) (c .args .items .now) (c .put-number-place .last .out) (c .put-number-place .result)
-      (fits g (need.at·returns g c .After-put-number-place)) (c .loop-item .item-index) (c .loop-item .out) (c .loop-item .place)
-      (c .loop-item-test .left) (c .loop-item .inv))
+    (fits g (need.at·returns g c .After-put-number-place)) (c .loop-item .item-index) (c .loop-item .out) (c .loop-item .place)
+    (c .loop-item-test .left) (c .loop-item .inv))

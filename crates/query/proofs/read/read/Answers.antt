@@ -13,7 +13,7 @@ use Rattle.query.proofs.read.read.Needs.{In-Some}
 kept-is-read : (c : In-Some) → verdict (c .args .bytes .now) ≡ accepted (draft-of (c .in-Some .kept) .done)
 kept-is-read c =
     let (q, (e, tracks)) = c .in-Continue-scan .ensures tt
-      (record { tracks = c .new-builder .ensures .tracks; used = c .new-builder .ensures .used }) in
+    (record { tracks = c .new-builder .ensures .tracks; used = c .new-builder .ensures .used }) in
     let held = subst (λ k. Keeps k (finished q _ _)) (sym (c .into-kept .ensures) ∙ c .in-Some .is) (tracks .kept) in
     e ∙ ap accepted (sym (ap (λ d. d .done) held))
 

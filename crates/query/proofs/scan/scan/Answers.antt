@@ -31,6 +31,11 @@ returns-then-builder c h =
 pub returns : need.returns
 returns c h =
     let (q, (read, tracks)) = c .in-Continue-alternatives .ensures tt .answer h in
-    let at = c .alternatives .last .self .at in
-    (q, (verdict-accepted (c .args .bytes .now) q at (read ∙ ap (λ b. took q at (drop at (b .now))) (c .alternatives .ensures .same))
-      (c .if-place-bytes .left) (sym (tracks .shared) ∙ c .if-builder .left), tracks))
+    let at = c .alternatives .last .self .at in (
+      q,
+      (
+        verdict-accepted (c .args .bytes .now) q at (read ∙ ap (λ b. took q at (drop at (b .now))) (c .alternatives .ensures .same))
+            (c .if-place-bytes .left) (sym (tracks .shared) ∙ c .if-builder .left),
+        tracks,
+      ),
+    )

@@ -13,8 +13,8 @@ returns-after-pairs c =
     let sets = c .args .blocks .now in
     subst (λ b. When b (Clash required sets) (Clash required sets → ⊥)) (sym (c .pairs .inv .0))
     (λ k.
-      let ordered = k .ordered in
-      let inside = k .inside in
-      let passed : k .first < c .pairs .first = omega arith in
-      both-ways _ (c .pairs .inv .1 (k .first) passed (k .second) (k .ordered) (k .inside) (k .variable) (k .known) required)
-        (k .clashes required))
+    let ordered = k .ordered in
+    let inside = k .inside in
+    let passed : k .first < c .pairs .first = omega arith in
+    both-ways _ (c .pairs .inv .1 (k .first) passed (k .second) (k .ordered) (k .inside) (k .variable) (k .known) required)
+    (k .clashes required))

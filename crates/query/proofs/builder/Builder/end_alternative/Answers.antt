@@ -19,8 +19,8 @@ returns c = record {
       let either : c .if-self .self ≡ (b .shared || found) = search needs in
       let room : b .count - 0 ≤ length (b .blocks) = omega (arith, b .inside, b .full) in
       let is : found ≡ shares g =
-        shares-front (b .required) (b .blocks) (b .count - 0) g found (h .required) (omega (arith, h .counted)) room (h .blocks)
-        (c .shares-found .ensures) in
+      shares-front (b .required) (b .blocks) (b .count - 0) g found (h .required) (omega (arith, h .counted)) room (h .blocks)
+      (c .shares-found .ensures) in
       record {
         part = h .part;
         required = c .empty-self .ensures;

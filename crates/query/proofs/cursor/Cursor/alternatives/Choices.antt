@@ -10,5 +10,5 @@ abbrev pub Inv-loop-number : given.InvT-loop-number
 Inv-loop-number l =
     (l .self .bytes ≡ l .entry .self .bytes)
     × (Holds (l .entry .builder) (finished [] [] []) unused
-      → Sofar alternative with-group with-groups (l .count) (l .-number) (l .entry .self) (l .self)
-        (λ q. Holds (l .builder) (finished q [] []) (with-groups q)))
+    → Sofar alternative with-group with-groups (l .count) (l .-number) (l .entry .self) (l .self)
+    (λ q. Holds (l .builder) (finished q [] []) (with-groups q)))

@@ -15,5 +15,5 @@ Inv-loop-number l =
     (l .self .bytes ≡ l .entry .self .bytes)
     × (used-of (l .builder) ≡ with-nodes (used-of (l .entry .builder)) (l .number))
     × ((d : Draft) → Tracks (l .entry .builder) d
-      → Sofar node (λ i _. i + 1) length (l .count) (l .number) (l .entry .self) (l .self)
-        (λ ns. Holds (l .builder) (with-nodes-in d ns) (with-nodes (used-of (l .entry .builder)) (length ns))))
+    → Sofar node (λ i _. i + 1) length (l .count) (l .number) (l .entry .self) (l .self)
+    (λ ns. Holds (l .builder) (with-nodes-in d ns) (with-nodes (used-of (l .entry .builder)) (length ns))))

@@ -15,5 +15,5 @@ Inv-loop-number l =
     (l .self .bytes ≡ l .entry .self .bytes)
     × (used-of (l .builder) ≡ with-triples (used-of (l .entry .builder)) (l .-number))
     × ((d : Draft) → Tracks (l .entry .builder) d
-      → Sofar (λ (_ : ℕ). triple) (λ i _. i + 1) length (l .count) (l .-number) (l .entry .self) (l .self)
-        (λ ts. Holds (l .builder) (with-triples-in d ts) (with-triples (used-of (l .entry .builder)) (length ts))))
+    → Sofar (λ (_ : ℕ). triple) (λ i _. i + 1) length (l .count) (l .-number) (l .entry .self) (l .self)
+    (λ ts. Holds (l .builder) (with-triples-in d ts) (with-triples (used-of (l .entry .builder)) (length ts))))

@@ -12,10 +12,10 @@ returns c h =
     let blocks = c .replace-blocks in
     let filter = c .replace-filter in
     let same : group-of (record { required = required .result; blocks = blocks .result; filter = filter .result })
-        ≡ record { required = vec-items (k .required); blocks = map part-of (vec-items (k .blocks)); filter = vec-items (k .nodes) } =
-      ap (λ v. group-of (record { required = v; blocks = blocks .result; filter = filter .result })) (required .ensures .value)
-      ∙ ap (λ v. group-of (record { required = k .required; blocks = v; filter = filter .result })) (blocks .ensures .value)
-      ∙ ap (λ v. group-of (record { required = k .required; blocks = k .blocks; filter = v })) (filter .ensures .value) in
+    ≡ record { required = vec-items (k .required); blocks = map part-of (vec-items (k .blocks)); filter = vec-items (k .nodes) } =
+    ap (λ v. group-of (record { required = v; blocks = blocks .result; filter = filter .result })) (required .ensures .value)
+    ∙ ap (λ v. group-of (record { required = k .required; blocks = v; filter = filter .result })) (blocks .ensures .value)
+    ∙ ap (λ v. group-of (record { required = k .required; blocks = k .blocks; filter = v })) (filter .ensures .value) in
     same-draft
     (map-pushed group-of _ _ _ _ _ _ (c .push .ensures .items) (c .is-ok .ensures .value) h same)
     (ap vec-items (required .ensures .after) ∙ c .new .ensures .items)

@@ -46,9 +46,9 @@ parts c =
     let x = c .alternative-item .result in
     let bs = vec-items (x .blocks) in
     let t = c .totals-inner .ensures .triples ∙ ap (total (λ b. length (part-of b .triples))) (c .as-slice .ensures .value)
-      ∙ sym (total-map part-of (λ p. length (p .triples)) bs) in
+    ∙ sym (total-map part-of (λ p. length (p .triples)) bs) in
     let n = c .totals-inner .ensures .nodes ∙ ap (total (λ b. length (part-of b .filter))) (c .as-slice .ensures .value)
-      ∙ sym (total-map part-of (λ p. length (p .filter)) bs) in
+    ∙ sym (total-map part-of (λ p. length (p .filter)) bs) in
     record {
       blocks = omega (arith, c .len-blocks .ensures, x .blocks .ok .0, length-map bs part-of);
       triples = omega (arith, c .len-required .ensures, x .required .ok .0, t);
@@ -73,16 +73,22 @@ add-triples c = omega (arith, room (need.at·add-triples c .After-as-slice) .tri
 
 pub add-triples-in-loop-alternative : need.add-triples-in-loop-alternative
 add-triples-in-loop-alternative c =
-    omega (arith, room (need.at·add-triples-in-loop-alternative c .After-as-slice) .triples,
-      parts (need.at·add-triples-in-loop-alternative c .After-len-blocks) .triples)
+    omega (
+      arith,
+      room (need.at·add-triples-in-loop-alternative c .After-as-slice) .triples,
+      parts (need.at·add-triples-in-loop-alternative c .After-len-blocks) .triples,
+    )
 
 pub add-nodes : need.add-nodes
 add-nodes c = omega (arith, room (need.at·add-nodes c .After-as-slice) .nodes, parts (need.at·add-nodes c .After-len-blocks) .nodes)
 
 pub add-nodes-in-loop-alternative : need.add-nodes-in-loop-alternative
 add-nodes-in-loop-alternative c =
-    omega (arith, room (need.at·add-nodes-in-loop-alternative c .After-as-slice) .nodes,
-      parts (need.at·add-nodes-in-loop-alternative c .After-len-blocks) .nodes)
+    omega (
+      arith,
+      room (need.at·add-nodes-in-loop-alternative c .After-as-slice) .nodes,
+      parts (need.at·add-nodes-in-loop-alternative c .After-len-blocks) .nodes,
+    )
 
 pub loop-alternative-again : need.loop-alternative-again
 loop-alternative-again c =
@@ -92,14 +98,15 @@ loop-alternative-again c =
     let x = c .alternative-item .result in
     let l = c .loop-alternative-test .taken in
     let is = c .alternative-item .is in
-    let inv = c .loop-alternative .inv in
-    (omega (arith, inv .0, p .blocks, total-next (λ a. length (group-of a .blocks)) xs i x l is),
+    let inv = c .loop-alternative .inv in (
+      omega (arith, inv .0, p .blocks, total-next (λ a. length (group-of a .blocks)) xs i x l is),
       omega (arith, inv .1, p .triples, total-next (λ a. triples-in (group-of a)) xs i x l is),
-      omega (arith, inv .2, p .nodes, total-next (λ a. nodes-in (group-of a)) xs i x l is))
+      omega (arith, inv .2, p .nodes, total-next (λ a. nodes-in (group-of a)) xs i x l is),
+    )
 
 same-counts : {a a′ b b′ t t′ n n′ : ℕ} → a ≡ a′ → b ≡ b′ → t ≡ t′ → n ≡ n′
     → _≡_ {A = Counts} (record { alternatives = a; blocks = b; triples = t; nodes = n })
-      (record { alternatives = a′; blocks = b′; triples = t′; nodes = n′ })
+    (record { alternatives = a′; blocks = b′; triples = t′; nodes = n′ })
 same-counts p q r s = cc
 
 pub returns : need.returns
@@ -112,9 +119,24 @@ returns c =
     let is = c .as-slice-alternatives .ensures .value in
     same-counts
     (ap length is ∙ sym (length-map ys group-of))
-    (omega (arith, inv .0, total-end (λ a. length (group-of a .blocks)) xs i l, ap (total (λ a. length (group-of a .blocks))) is,
-      total-map group-of (λ g. length (g .blocks)) ys))
-    (omega (arith, inv .1, total-end (λ a. triples-in (group-of a)) xs i l, ap (total (λ a. triples-in (group-of a))) is,
-      total-map group-of triples-in ys))
-    (omega (arith, inv .2, total-end (λ a. nodes-in (group-of a)) xs i l, ap (total (λ a. nodes-in (group-of a))) is,
-      total-map group-of nodes-in ys))
+    (omega (
+      arith,
+      inv .0,
+      total-end (λ a. length (group-of a .blocks)) xs i l,
+      ap (total (λ a. length (group-of a .blocks))) is,
+      total-map group-of (λ g. length (g .blocks)) ys,
+    ))
+    (omega (
+      arith,
+      inv .1,
+      total-end (λ a. triples-in (group-of a)) xs i l,
+      ap (total (λ a. triples-in (group-of a))) is,
+      total-map group-of triples-in ys,
+    ))
+    (omega (
+      arith,
+      inv .2,
+      total-end (λ a. nodes-in (group-of a)) xs i l,
+      ap (total (λ a. nodes-in (group-of a))) is,
+      total-map group-of nodes-in ys,
+    ))

@@ -9,8 +9,8 @@ use Rattle.query.proofs.query.Query.counts.Given as given
 abbrev pub Inv-loop-alternative : given.InvT-loop-alternative
 Inv-loop-alternative l =
     (l .blocks + total (λ a. length (group-of a .blocks)) (drop (l .alternative-index) (l .alternatives))
-      ≡ total (λ a. length (group-of a .blocks)) (l .alternatives))
+    ≡ total (λ a. length (group-of a .blocks)) (l .alternatives))
     × (l .triples + total (λ a. triples-in (group-of a)) (drop (l .alternative-index) (l .alternatives))
-      ≡ total (λ a. triples-in (group-of a)) (l .alternatives))
+    ≡ total (λ a. triples-in (group-of a)) (l .alternatives))
     × (l .nodes + total (λ a. nodes-in (group-of a)) (drop (l .alternative-index) (l .alternatives))
-      ≡ total (λ a. nodes-in (group-of a)) (l .alternatives))
+    ≡ total (λ a. nodes-in (group-of a)) (l .alternatives))

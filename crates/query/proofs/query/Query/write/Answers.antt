@@ -23,10 +23,10 @@ put-list-requires c κs =
     let is = sym (c .as-slice .ensures .value) in
     let kept = and-parts (limited gs) (not (some shares gs)) (q .keeps) .0 in
     let x = and-parts (within 1 most-alternatives (length gs))
-      (every lawful-group gs && (leb (total triples-in gs) most-in-all && leb (total nodes-in gs) most-in-all)) kept in
+    (every lawful-group gs && (leb (total triples-in gs) most-in-all && leb (total nodes-in gs) most-in-all)) kept in
     let y = and-parts (every lawful-group gs) (leb (total triples-in gs) most-in-all && leb (total nodes-in gs) most-in-all) (x .1) in
     let w = subst (Writable (λ a. lawful-group (group-of a))) is
-      (mapped-writable group-of lawful-group 1 most-alternatives xs (omega arith) (x .0) (y .0)) in
+    (mapped-writable group-of lawful-group 1 most-alternatives xs (omega arith) (x .0) (y .0)) in
     let same = ap (counted (λ a. group-bytes (group-of a))) (c .as-slice .ensures .value) ∙ counted-map group-of group-bytes xs in
     record {
       few = w .0;
@@ -38,6 +38,6 @@ pub returns : need.returns
 returns c =
     let q = c .args .self .now in
     let same = ap (counted (λ a. group-bytes (group-of a))) (c .as-slice .ensures .value)
-      ∙ counted-map group-of group-bytes (vec-items (q .alternatives)) in
+    ∙ counted-map group-of group-bytes (vec-items (q .alternatives)) in
     let put = subst (λ l. Put l 0 (c .args .out .now) (c .put-list .result) (c .put-list .last .out)) same (c .put-list .ensures) in
     (omega (arith, q .measured), omega (arith, put .0), put .1)

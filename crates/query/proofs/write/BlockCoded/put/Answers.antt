@@ -15,7 +15,7 @@ use Rattle.query.proofs.write.BlockCoded.put.Needs.{After-put-list-place}
 -- the triples were written
 wrote-triples : (c : After-put-list-place)
     → Put (counted triple-bytes (vec-items (c .args .self .now .triples))) (c .args .at) (c .args .out .now) (c .put-list-place .result)
-      (c .put-list-place .last .out)
+    (c .put-list-place .last .out)
 wrote-triples c =
     subst (λ l. Put (counted triple-bytes l) (c .args .at) (c .args .out .now) (c .put-list-place .result) (c .put-list-place .last .out))
     (c .as-slice .ensures .value) (c .put-list-place .ensures)
@@ -31,7 +31,7 @@ put-list-place-requires c κs =
       few = w .0;
       sound = w .1;
       room = subst (λ l. c .args .at + length (counted triple-bytes l) ≤ length (c .args .out .now)) is
-        (room-first (counted triple-bytes ts) (counted node-bytes ns) (c .args .at) (c .args .out .now) (c .pre .room));
+          (room-first (counted triple-bytes ts) (counted node-bytes ns) (c .args .at) (c .args .out .now) (c .pre .room));
     }
 
 pub put-list-requires : need.put-list-requires
@@ -45,7 +45,7 @@ put-list-requires c κs =
       few = w .0;
       sound = w .1;
       room = subst (λ l. c .put-list-place .result + length (counted node-bytes l) ≤ length (c .put-list-place .last .out)) is
-        (room-second (counted triple-bytes ts) (counted node-bytes ns) (c .args .at) _ (c .args .out .now) _ (c .pre .room)
+          (room-second (counted triple-bytes ts) (counted node-bytes ns) (c .args .at) _ (c .args .out .now) _ (c .pre .room)
           (wrote-triples (need.at·put-list-requires c .After-put-list-place)));
     }
 
@@ -55,4 +55,4 @@ returns c =
     put-append (counted triple-bytes (vec-items (b .triples))) (counted node-bytes (vec-items (b .filter))) (c .args .at) _ _
     (c .args .out .now) _ _ (c .pre .room) (wrote-triples (need.at·returns c .After-put-list-place))
     (subst (λ l. Put (counted node-bytes l) (c .put-list-place .result) (c .put-list-place .last .out) (c .put-list .result) (c .put-list .last .out))
-      (c .as-slice-2 .ensures .value) (c .put-list .ensures))
+    (c .as-slice-2 .ensures .value) (c .put-list .ensures))

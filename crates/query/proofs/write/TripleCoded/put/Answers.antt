@@ -12,7 +12,7 @@ put-place-place-requires c κs =
     record {
       sound = and-parts (lawful-place (t .subject)) (lawful-place (t .property) && lawful-place (t .object)) (c .pre .sound) .0;
       room = room-first (place-bytes (t .subject)) (place-bytes (t .property) ++ place-bytes (t .object)) (c .args .at) (c .args .out .now)
-        (c .pre .room);
+          (c .pre .room);
     }
 
 pub put-places-requires : need.put-places-requires
@@ -23,7 +23,7 @@ put-places-requires c κs =
     record {
       sound = (v .0, v .1);
       room = room-second (place-bytes (t .subject)) (place-bytes (t .property) ++ place-bytes (t .object)) (c .args .at) _ (c .args .out .now) _
-        (c .pre .room) (c .put-place-place .ensures);
+          (c .pre .room) (c .put-place-place .ensures);
     }
 
 pub returns : need.returns
