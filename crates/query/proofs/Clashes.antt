@@ -15,7 +15,8 @@ No-variable required sets first second n =
     (v : ℕ) → v < n → (d : VariableSet) → clash v required (getD sets first d) (getD sets second d) ≡ false
 
 abbrev pub No-second : VariableSet → List VariableSet → ℕ → ℕ → Type 0
-No-second required sets first n = (second : ℕ) → first < second → second < n → No-variable required sets first second 16
+No-second required sets first n = (second : ℕ) → first < second → second < n
+    → No-variable required sets first second 16
 
 abbrev pub No-pair : VariableSet → List VariableSet → ℕ → Type 0
 No-pair required sets n = (first : ℕ) → first < n → No-second required sets first (length sets)

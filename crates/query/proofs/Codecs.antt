@@ -8,7 +8,8 @@ use native.Mathlib.Omega.{arith}
 use lib.Dec.{leb, ltb, eqb}
 use lib.ListN.{length}
 use Rattle.std.proofs.shelf.Lists.{append-assoc, length-append}
-use Rattle.std.proofs.shelf.Tests.{leb-true, ltb-true, le-leb, eqb-true, eq-eqb, ne-eqb, and-parts, and-from, cases-bool, eqb-false}
+use Rattle.std.proofs.shelf.Tests.{leb-true, ltb-true, le-leb, eqb-true, eq-eqb, ne-eqb, and-parts, and-from}
+use Rattle.std.proofs.shelf.Tests.{cases-bool, eqb-false}
 use Rattle.std.specs.declared.option.Option.{Option}
 use Rattle.std.specs.declared.option.Option.the-variants.{Some, None}
 use Rattle.varint.specs.Encode.{encode, largest}
@@ -22,13 +23,16 @@ use Rattle.query.specs.declared.node.Node.{Node}
 use Rattle.query.specs.declared.node.Node.the-variants.{Equal, Less, Bound, Not, And, Or}
 use Rattle.query.specs.declared.pattern.TriplePattern.{TriplePattern}
 use Rattle.query.specs.Parts.{Part, Group}
-use Rattle.query.specs.Codes.{within, when, lawful-place, code-of, coded, place-from, number-of, kind-among, kind-from, most-variable, most-term}
+use Rattle.query.specs.Codes.{within, when, lawful-place, code-of, coded, place-from, number-of, kind-among}
+use Rattle.query.specs.Codes.{kind-from, most-variable, most-term}
 use Rattle.query.specs.Format.{place-bytes, triple-bytes, kind-of, operand-bytes, node-bytes, counted}
 use Rattle.query.specs.Lawful.{lawful-triple, lawful-node}
-use Rattle.query.specs.Grammar.{Read, took, refused, Reader, next, one, both, role, place, triple, variable, lower, operands, node}
+use Rattle.query.specs.Grammar.{Read, took, refused, Reader, next, one, both, role, place, triple, variable}
+use Rattle.query.specs.Grammar.{lower, operands, node}
 use Rattle.query.specs.Theorems.{by-number}
 use Rattle.query.proofs.Readers.{Stops, Codec, codec-like, when-some, role-codec, tested-codec}
-use Rattle.query.proofs.Sequences.{one-took, one-refused, one-stops, both-took, both-back, both-stops, both-codec}
+use Rattle.query.proofs.Sequences.{one-took, one-refused, one-stops, both-took, both-back, both-stops}
+use Rattle.query.proofs.Sequences.{both-codec}
 
 -- place
 
@@ -36,13 +40,15 @@ coded-odd : (v : ℕ) → coded (2 * v + 1) ≡ Variable v
 coded-odd v =
     let odd : (2 * v + 1) % 2 ≡ 1 = omega arith in
     let half : (2 * v + 1) / 2 ≡ v = omega arith in
-    ap (λ b. cond b (Variable ((2 * v + 1) / 2)) (Term ((2 * v + 1) / 2))) (eq-eqb ((2 * v + 1) % 2) 1 odd) ∙ ap Variable half
+    ap (λ b. cond b (Variable ((2 * v + 1) / 2)) (Term ((2 * v + 1) / 2))) (eq-eqb ((2 * v + 1) % 2) 1 odd)
+    ∙ ap Variable half
 
 coded-even : (t : ℕ) → coded (2 * t) ≡ Term t
 coded-even t =
     let even : (2 * t) % 2 ≡ 1 → ⊥ = λ e. omega arith in
     let half : (2 * t) / 2 ≡ t = omega arith in
-    ap (λ b. cond b (Variable ((2 * t) / 2)) (Term ((2 * t) / 2))) (ne-eqb ((2 * t) % 2) 1 even) ∙ ap Term half
+    ap (λ b. cond b (Variable ((2 * t) / 2)) (Term ((2 * t) / 2))) (ne-eqb ((2 * t) % 2) 1 even)
+    ∙ ap Term half
 
 -- the place that a place's code stands for is that place
 pub coded-code : (p : Place) → coded (code-of p) ≡ p
@@ -64,7 +70,8 @@ code-coded code =
     (cases-bool (eqb (code % 2) 1))
 
 code-small : (p : Place) → lawful-place p ≡ true → code-of p ≤ largest
-code-small (Variable v) h = omega (arith, leb-true v most-variable (and-parts (leb 0 v) (leb v most-variable) h .1))
+code-small (Variable v) h = omega
+    (arith, leb-true v most-variable (and-parts (leb 0 v) (leb v most-variable) h .1))
 code-small (Term t) h = omega (arith, leb-true t most-term (and-parts (leb 1 t) (leb t most-term) h .1))
 
 pub place-codec : Codec place place-bytes (λ p. lawful-place p ≡ true)
@@ -77,32 +84,39 @@ place-codec =
 -- triple
 
 triple-parts : (t : TriplePattern) → lawful-triple t ≡ true
-    → (lawful-place (t .subject) ≡ true) × ((lawful-place (t .property) ≡ true) × (lawful-place (t .object) ≡ true))
+    → (lawful-place (t .subject) ≡ true)
+    × ((lawful-place (t .property) ≡ true) × (lawful-place (t .object) ≡ true))
 triple-parts t h =
-    let a = and-parts (lawful-place (t .subject)) (lawful-place (t .property) && lawful-place (t .object)) h in
+    let a = and-parts (lawful-place (t .subject)) (lawful-place (t .property) && lawful-place (t .object))
+    h in
     let b = and-parts (lawful-place (t .property)) (lawful-place (t .object)) (a .1) in
     (a .0, (b .0, b .1))
 
 triple-from-parts : (t : TriplePattern)
-    → (lawful-place (t .subject) ≡ true) × ((lawful-place (t .property) ≡ true) × (lawful-place (t .object) ≡ true))
+    → (lawful-place (t .subject) ≡ true)
+    × ((lawful-place (t .property) ≡ true) × (lawful-place (t .object) ≡ true))
     → lawful-triple t ≡ true
 triple-from-parts t h = and-from _ _ (h .0) (and-from _ _ (h .1 .0) (h .1 .1))
 
 place-pair-codec : Codec (both {C = Place × Place} place (λ _. place) (λ p o. (p, o)))
-    (λ x. place-bytes (x .0) ++ place-bytes (x .1)) (λ x. (lawful-place (x .0) ≡ true) × (lawful-place (x .1) ≡ true))
+    (λ x. place-bytes (x .0) ++ place-bytes (x .1)) (λ x. (lawful-place (x .0) ≡ true)
+    × (lawful-place (x .1) ≡ true))
 place-pair-codec =
     both-codec place (λ _. place) (λ p o. (p, o)) place-bytes (λ p. lawful-place p ≡ true) place-codec
-    place-bytes (λ _ o. lawful-place o ≡ true) (λ _ _. place-codec) (λ x. x .0) (λ x. x .1) (λ x. refl) (λ a b _. (refl, refl))
+    place-bytes (λ _ o. lawful-place o ≡ true) (λ _ _. place-codec) (λ x. x .0) (λ x. x .1) (λ x. refl)
+    (λ a b _. (refl, refl))
 
 pub triple-codec : Codec triple triple-bytes (λ t. lawful-triple t ≡ true)
 triple-codec =
     codec-like
-    (λ t. (lawful-place (t .subject) ≡ true) × ((lawful-place (t .property) ≡ true) × (lawful-place (t .object) ≡ true)))
+    (λ t. (lawful-place (t .subject) ≡ true)
+    × ((lawful-place (t .property) ≡ true) × (lawful-place (t .object) ≡ true)))
     (λ t. lawful-triple t ≡ true) triple-parts triple-from-parts
     (both-codec {B = Place × Place} {C = TriplePattern} place (λ _. both place (λ _. place) (λ p o. (p, o)))
     (λ s po. record { subject = s; property = po .0; object = po .1 })
     place-bytes (λ p. lawful-place p ≡ true) place-codec
-    (λ x. place-bytes (x .0) ++ place-bytes (x .1)) (λ _ x. (lawful-place (x .0) ≡ true) × (lawful-place (x .1) ≡ true))
+    (λ x. place-bytes (x .0) ++ place-bytes (x .1)) (λ _ x. (lawful-place (x .0) ≡ true)
+    × (lawful-place (x .1) ≡ true))
     (λ _ _. place-pair-codec)
     (λ t. t .subject) (λ t. (t .property, t .object)) (λ t. refl) (λ a b _. (refl, refl)))
 
@@ -119,11 +133,14 @@ lower-codec i small = tested-codec NodeInvalid (λ a. ltb a i) (λ a h. omega (a
 -- a node of the kind, with the bytes that follow its kind
 abbrev Taken : ℕ → Kind → ℕ → List ℕ → ℕ → List ℕ → Node → Type 0
 Taken i k at bs after rest n =
-    ((kind-of n ≡ k) × (lawful-node i n ≡ true)) × (bs ≡ operand-bytes n ++ rest) × (after ≡ at + length (operand-bytes n))
+    ((kind-of n ≡ k) × (lawful-node i n ≡ true)) × (bs ≡ operand-bytes n ++ rest)
+    × (after ≡ at + length (operand-bytes n))
 
 -- what one operand and what two operands of one kind took
-module _ {A : Type 0} (p : Reader A) (enc : A → List ℕ) (ok : A → Bool) (codec : Codec p enc (λ a. ok a ≡ true)) where
-  one-only : {B : Type 0} (c : A → B) (at : ℕ) (bs : List ℕ) (x : B) (after : ℕ) (rest : List ℕ) → one p c at bs ≡ took x after rest
+module _ {A : Type 0} (p : Reader A) (enc : A → List ℕ) (ok : A → Bool)
+    (codec : Codec p enc (λ a. ok a ≡ true)) where
+  one-only : {B : Type 0} (c : A → B) (at : ℕ) (bs : List ℕ) (x : B) (after : ℕ) (rest : List ℕ)
+      → one p c at bs ≡ took x after rest
       → (a : A) × ((x ≡ c a) × ((ok a ≡ true) × ((bs ≡ enc a ++ rest) × (after ≡ at + length (enc a)))))
   one-only c at bs x after rest t =
       let s = one-took p c at bs x after rest t in
@@ -146,7 +163,8 @@ module _ {A : Type 0} (p : Reader A) (enc : A → List ℕ) (ok : A → Bool) (c
             (
               and-from _ _ (f .0) (g .0),
               (
-                f .1 ∙ ap (λ l. enc (s .first) ++ l) (g .1) ∙ sym (append-assoc (enc (s .first)) (enc (s .second)) rest),
+                f .1 ∙ ap (λ l. enc (s .first) ++ l) (g .1)
+                    ∙ sym (append-assoc (enc (s .first)) (enc (s .second)) rest),
                 omega (arith, f .2, g .2, length-append (enc (s .first)) (enc (s .second))),
               ),
             ),
@@ -161,15 +179,19 @@ module _ {A : Type 0} (p : Reader A) (enc : A → List ℕ) (ok : A → Bool) (c
       both-back p (λ _. p) c enc (λ a. ok a ≡ true) codec a b (enc b) at rest (w .0)
       (codec .back b (at + length (enc a)) rest (w .1))
 
-  two-stops : {B : Type 0} (c : A → A → B) (at : ℕ) (bs : List ℕ) (r : Refusal) (q : ℕ) → both p (λ _. p) c at bs ≡ refused r q
+  two-stops : {B : Type 0} (c : A → A → B) (at : ℕ) (bs : List ℕ) (r : Refusal) (q : ℕ)
+      → both p (λ _. p) c at bs ≡ refused r q
       → by-number r ≡ true → Stops (both p (λ _. p) c) at bs r q
   two-stops c at bs r q t h =
-      both-stops p (λ _. p) c enc (λ a. ok a ≡ true) codec at bs r q t h (λ a mid more ok e. codec .stops mid more r q e h)
+      both-stops p (λ _. p) c enc (λ a. ok a ≡ true) codec at bs r q t h
+      (λ a mid more ok e. codec .stops mid more r q e h)
 
 operands-back : (i : ℕ) → i ≤ largest → (n : Node) (at : ℕ) (rest : List ℕ) → lawful-node i n ≡ true
     → operands i (kind-of n) at (operand-bytes n ++ rest) ≡ took n (at + length (operand-bytes n)) rest
-operands-back i small (Equal a b) at rest h = two-back place place-bytes lawful-place place-codec (λ a b. Equal a b) a b at rest h
-operands-back i small (Less a b) at rest h = two-back place place-bytes lawful-place place-codec (λ a b. Less a b) a b at rest h
+operands-back i small (Equal a b) at rest h = two-back place place-bytes lawful-place place-codec
+    (λ a b. Equal a b) a b at rest h
+operands-back i small (Less a b) at rest h = two-back place place-bytes lawful-place place-codec
+    (λ a b. Less a b) a b at rest h
 operands-back i small (Bound v) at rest h =
     ap (λ m. next m (λ a after more. took (Bound a) after more)) (variable-codec .back v at rest h)
 operands-back i small (Not a) at rest h =
@@ -179,25 +201,32 @@ operands-back i small (And a b) at rest h =
 operands-back i small (Or a b) at rest h =
     two-back (lower i) encode (λ a. ltb a i) (lower-codec i small) (λ a b. Or a b) a b at rest h
 
-operands-only : (i : ℕ) → i ≤ largest → (k : Kind) (at : ℕ) (bs : List ℕ) (n : Node) (after : ℕ) (rest : List ℕ)
+operands-only : (i : ℕ) → i ≤ largest
+    → (k : Kind) (at : ℕ) (bs : List ℕ) (n : Node) (after : ℕ) (rest : List ℕ)
     → operands i k at bs ≡ took n after rest → Taken i k at bs after rest n
 operands-only i small kind.Equal at bs n after rest t =
-    let (a, (b, (e, w))) = two-only place place-bytes lawful-place place-codec (λ a b. Equal a b) at bs n after rest t in
+    let (a, (b, (e, w))) = two-only place place-bytes lawful-place place-codec (λ a b. Equal a b) at bs n
+    after rest t in
     subst (Taken i kind.Equal at bs after rest) (sym e) ((refl, w .0), w .1 .0, w .1 .1)
 operands-only i small kind.Less at bs n after rest t =
-    let (a, (b, (e, w))) = two-only place place-bytes lawful-place place-codec (λ a b. Less a b) at bs n after rest t in
+    let (a, (b, (e, w))) = two-only place place-bytes lawful-place place-codec (λ a b. Less a b) at bs n
+    after rest t in
     subst (Taken i kind.Less at bs after rest) (sym e) ((refl, w .0), w .1 .0, w .1 .1)
 operands-only i small kind.Bound at bs n after rest t =
-    let (v, (e, w)) = one-only variable encode (within 0 most-variable) variable-codec (λ v. Bound v) at bs n after rest t in
+    let (v, (e, w)) = one-only variable encode (within 0 most-variable) variable-codec (λ v. Bound v) at bs n
+    after rest t in
     subst (Taken i kind.Bound at bs after rest) (sym e) ((refl, w .0), w .1 .0, w .1 .1)
 operands-only i small kind.Not at bs n after rest t =
-    let (a, (e, w)) = one-only (lower i) encode (λ a. ltb a i) (lower-codec i small) (λ a. Not a) at bs n after rest t in
+    let (a, (e, w)) = one-only (lower i) encode (λ a. ltb a i) (lower-codec i small) (λ a. Not a) at bs n
+    after rest t in
     subst (Taken i kind.Not at bs after rest) (sym e) ((refl, w .0), w .1 .0, w .1 .1)
 operands-only i small kind.And at bs n after rest t =
-    let (a, (b, (e, w))) = two-only (lower i) encode (λ a. ltb a i) (lower-codec i small) (λ a b. And a b) at bs n after rest t in
+    let (a, (b, (e, w))) = two-only (lower i) encode (λ a. ltb a i) (lower-codec i small) (λ a b. And a b) at
+    bs n after rest t in
     subst (Taken i kind.And at bs after rest) (sym e) ((refl, w .0), w .1 .0, w .1 .1)
 operands-only i small kind.Or at bs n after rest t =
-    let (a, (b, (e, w))) = two-only (lower i) encode (λ a. ltb a i) (lower-codec i small) (λ a b. Or a b) at bs n after rest t in
+    let (a, (b, (e, w))) = two-only (lower i) encode (λ a. ltb a i) (lower-codec i small) (λ a b. Or a b) at
+    bs n after rest t in
     subst (Taken i kind.Or at bs after rest) (sym e) ((refl, w .0), w .1 .0, w .1 .1)
 
 operands-stops : (i : ℕ) → i ≤ largest → (k : Kind) (at : ℕ) (bs : List ℕ) (r : Refusal) (q : ℕ)
@@ -210,14 +239,17 @@ operands-stops i small kind.Bound =
 operands-stops i small kind.Not =
     λ at bs r q t h. one-stops (lower i) (λ a. Not a) at bs r q
     (lower-codec i small .stops at bs r q (one-refused (lower i) (λ a. Not a) at bs r q t) h)
-operands-stops i small kind.And = two-stops (lower i) encode (λ a. ltb a i) (lower-codec i small) (λ a b. And a b)
-operands-stops i small kind.Or = two-stops (lower i) encode (λ a. ltb a i) (lower-codec i small) (λ a b. Or a b)
+operands-stops i small kind.And = two-stops (lower i) encode (λ a. ltb a i) (lower-codec i small)
+    (λ a b. And a b)
+operands-stops i small kind.Or = two-stops (lower i) encode (λ a. ltb a i) (lower-codec i small)
+    (λ a b. Or a b)
 
 operands-codec : (i : ℕ) → i ≤ largest → (k : Kind)
     → Codec (operands i k) operand-bytes (λ n. (kind-of n ≡ k) × (lawful-node i n ≡ true))
 operands-codec i small k = record {
   back = λ n at rest h.
-      ap (λ j. operands i j at (operand-bytes n ++ rest)) (sym (h .0)) ∙ operands-back i small n at rest (h .1);
+      ap (λ j. operands i j at (operand-bytes n ++ rest)) (sym (h .0))
+      ∙ operands-back i small n at rest (h .1);
   only = operands-only i small k;
   stops = operands-stops i small k;
 }
@@ -254,11 +286,16 @@ kind-found (j ∷ ks) n k e =
 kind-codec : Codec (role NodeInvalid kind-from) (λ k. encode (number-of k)) (λ _. Unit {0})
 kind-codec =
     role-codec NodeInvalid kind-from number-of (λ _. Unit {0}) (λ k _. (kind-back k, kind-small k))
-    (λ n k l e. (tt, kind-found (kind.Equal ∷ kind.Less ∷ kind.Bound ∷ kind.Not ∷ kind.And ∷ kind.Or ∷ []) n k e))
+    (λ n k l e. (
+      tt,
+      kind-found (kind.Equal ∷ kind.Less ∷ kind.Bound ∷ kind.Not ∷ kind.And ∷ kind.Or ∷ []) n
+          k e,
+    ))
 
 pub node-codec : (i : ℕ) → i ≤ largest → Codec (node i) node-bytes (λ n. lawful-node i n ≡ true)
 node-codec i small =
-    codec-like (λ n. Unit {0} × ((kind-of n ≡ kind-of n) × (lawful-node i n ≡ true))) (λ n. lawful-node i n ≡ true)
+    codec-like (λ n. Unit {0} × ((kind-of n ≡ kind-of n) × (lawful-node i n ≡ true))) (λ n. lawful-node i n
+    ≡ true)
     (λ n h. (tt, (refl, h))) (λ n h. h .1 .1)
     (both-codec (role NodeInvalid kind-from) (operands i) (λ _ n. n)
     (λ k. encode (number-of k)) (λ _. Unit {0}) kind-codec

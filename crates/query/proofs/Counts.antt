@@ -11,7 +11,9 @@ use Rattle.std.proofs.shelf.Lists.{length-map}
 use Rattle.std.proofs.shelf.Tests.{leb-true, and-parts}
 use Rattle.query.specs.declared.alternative.Alternative.{Alternative}
 use Rattle.query.specs.Codes.{within}
-use Rattle.query.specs.Lawful.{every, some, shares, total, triples-in, nodes-in, lawful-triples, lawful-part, lawful-filter, lawful-group, limited, lawful, most-blocks, most-alternatives, most-in-all}
+use Rattle.query.specs.Lawful.{every, some, shares, total, triples-in, nodes-in, lawful-triples, lawful-part}
+use Rattle.query.specs.Lawful.{lawful-filter, lawful-group, limited, lawful, most-blocks, most-alternatives}
+use Rattle.query.specs.Lawful.{most-in-all}
 use Rattle.query.specs.Parts.{Group, group-of}
 use Rattle.query.proofs.Lawful.{total-next, total-map, total-most}
 
@@ -24,19 +26,25 @@ pub record Sums (xs : List Alternative) : Type 0 where
 few-blocks : (g : Group) → lawful-group g ≡ true → length (g .blocks) ≤ most-blocks
 few-blocks g h =
     let a = and-parts (lawful-triples 0 (g .required))
-    (within 0 most-blocks (length (g .blocks)) && (every lawful-part (g .blocks) && lawful-filter (g .filter))) h in
-    let b = and-parts (within 0 most-blocks (length (g .blocks))) (every lawful-part (g .blocks) && lawful-filter (g .filter)) (a .1) in
-    leb-true (length (g .blocks)) most-blocks (and-parts (leb 0 (length (g .blocks))) (leb (length (g .blocks)) most-blocks) (b .0) .1)
+    (within 0 most-blocks (length (g .blocks))
+    && (every lawful-part (g .blocks) && lawful-filter (g .filter))) h in
+    let b = and-parts (within 0 most-blocks (length (g .blocks))) (every lawful-part (g .blocks)
+    && lawful-filter (g .filter)) (a .1) in
+    leb-true (length (g .blocks)) most-blocks
+    (and-parts (leb 0 (length (g .blocks))) (leb (length (g .blocks)) most-blocks) (b .0) .1)
 
 pub sums-lawful : (xs : List Alternative) → lawful (map group-of xs) ≡ true → Sums xs
 sums-lawful xs h =
     let gs = map group-of xs in
     let a = and-parts (limited gs) (not (some shares gs)) h in
     let b = and-parts (within 1 most-alternatives (length gs))
-    (every lawful-group gs && (leb (total triples-in gs) most-in-all && leb (total nodes-in gs) most-in-all)) (a .0) in
-    let c = and-parts (every lawful-group gs) (leb (total triples-in gs) most-in-all && leb (total nodes-in gs) most-in-all) (b .1) in
+    (every lawful-group gs && (leb (total triples-in gs) most-in-all && leb (total nodes-in gs) most-in-all))
+    (a .0) in
+    let c = and-parts (every lawful-group gs) (leb (total triples-in gs) most-in-all
+    && leb (total nodes-in gs) most-in-all) (b .1) in
     let d = and-parts (leb (total triples-in gs) most-in-all) (leb (total nodes-in gs) most-in-all) (c .1) in
-    let many = leb-true (length gs) most-alternatives (and-parts (leb 1 (length gs)) (leb (length gs) most-alternatives) (b .0) .1) in
+    let many = leb-true (length gs) most-alternatives
+    (and-parts (leb 1 (length gs)) (leb (length gs) most-alternatives) (b .0) .1) in
     record {
       blocks = omega (
         arith,
@@ -44,11 +52,16 @@ sums-lawful xs h =
         total-most (λ g. length (g .blocks)) most-blocks lawful-group gs few-blocks (c .0),
         total-map group-of (λ g. length (g .blocks)) xs,
       );
-      triples = omega (arith, leb-true (total triples-in gs) most-in-all (d .0), total-map group-of triples-in xs);
+      triples = omega (
+        arith,
+        leb-true (total triples-in gs) most-in-all (d .0),
+        total-map group-of triples-in xs,
+      );
       nodes = omega (arith, leb-true (total nodes-in gs) most-in-all (d .1), total-map group-of nodes-in xs);
     }
 
 -- a count so far, with the next element, is no more than the sum
-pub count-next : (f : Alternative → ℕ) (xs : List Alternative) (i : ℕ) (x : Alternative) (n : ℕ) → i < length xs → x ≡ getD xs i x
+pub count-next : (f : Alternative → ℕ) (xs : List Alternative) (i : ℕ) (x : Alternative) (n : ℕ)
+    → i < length xs → x ≡ getD xs i x
     → n + total f (drop i xs) ≡ total f xs → n + f x ≤ total f xs
 count-next f xs i x n l is e = omega (arith, total-next f xs i x l is)

@@ -14,7 +14,8 @@ use Rattle.query.specs.Building.{Tracks, used-of}
 use Rattle.query.specs.Calls.{Holds, with-triples-in, with-nodes-in}
 use Rattle.query.specs.Grammar.{Used}
 
-pub same-draft : {p p′ : List Group} {q q′ : List TriplePattern} {r r′ : List Part} {s s′ : List TriplePattern} {t t′ : List Node}
+pub same-draft : {p p′ : List Group} {q q′ : List TriplePattern} {r r′ : List Part}
+    {s s′ : List TriplePattern} {t t′ : List Node}
     → p ≡ p′ → q ≡ q′ → r ≡ r′ → s ≡ s′ → t ≡ t′
     → _≡_ {A = Draft} (record { done = p; required = q; blocks = r; triples = s; nodes = t })
     (record { done = p′; required = q′; blocks = r′; triples = s′; nodes = t′ })
@@ -22,28 +23,59 @@ same-draft a b c d e = cc
 
 -- what a push that found memory leaves, each element seen by f
 pub map-pushed : {A B : Type 0} (f : A → B) (before after : List A) (x : A) (y : B) (ok found : Bool)
-    → after ≡ cond ok (before ++ x ∷ []) before → found ≡ ok → found ≡ true → f x ≡ y → map f after ≡ map f before ++ y ∷ []
+    → after ≡ cond ok (before ++ x ∷ []) before → found ≡ ok → found ≡ true → f x ≡ y → map f after
+    ≡ map f before ++ y ∷ []
 map-pushed f before after x y ok found e o t same =
     ap (map f) (e ∙ ap (λ b. cond b (before ++ x ∷ []) before) (sym o ∙ t)) ∙ map-push f before x
     ∙ ap (λ z. map f before ++ z ∷ []) same
 
 -- with-triples-in, with-nodes-in
 
-pub triple-in : (d : Draft) (ts : List TriplePattern) (t : TriplePattern) → stepped (with-triples-in d ts) (Triple t) ≡ with-triples-in d (ts ++ t ∷ [])
+pub triple-in : (d : Draft) (ts : List TriplePattern) (t : TriplePattern)
+    → stepped (with-triples-in d ts) (Triple t) ≡ with-triples-in d (ts ++ t ∷ [])
 triple-in d ts t =
-    ap (λ l. record { done = d .done; required = d .required; blocks = d .blocks; triples = l; nodes = d .nodes }) (append-assoc (d .triples) ts (t ∷ []))
+    ap (λ l. record {
+      done = d .done;
+      required = d .required;
+      blocks = d .blocks;
+      triples = l;
+      nodes
+          = d .nodes;
+    }) (append-assoc (d .triples) ts (t ∷ []))
 
 pub triple-in-none : (d : Draft) → with-triples-in d [] ≡ d
 triple-in-none d =
-    ap (λ l. record { done = d .done; required = d .required; blocks = d .blocks; triples = l; nodes = d .nodes }) (append-nil (d .triples))
+    ap (λ l. record {
+      done = d .done;
+      required = d .required;
+      blocks = d .blocks;
+      triples = l;
+      nodes
+          = d .nodes;
+    }) (append-nil (d .triples))
 
-pub node-in : (d : Draft) (ns : List Node) (n : Node) → stepped (with-nodes-in d ns) (step.Node n) ≡ with-nodes-in d (ns ++ n ∷ [])
+pub node-in : (d : Draft) (ns : List Node) (n : Node) → stepped (with-nodes-in d ns) (step.Node n)
+    ≡ with-nodes-in d (ns ++ n ∷ [])
 node-in d ns n =
-    ap (λ l. record { done = d .done; required = d .required; blocks = d .blocks; triples = d .triples; nodes = l }) (append-assoc (d .nodes) ns (n ∷ []))
+    ap (λ l. record {
+      done = d .done;
+      required = d .required;
+      blocks = d .blocks;
+      triples = d .triples;
+      nodes
+          = l;
+    }) (append-assoc (d .nodes) ns (n ∷ []))
 
 pub node-in-none : (d : Draft) → with-nodes-in d [] ≡ d
 node-in-none d =
-    ap (λ l. record { done = d .done; required = d .required; blocks = d .blocks; triples = d .triples; nodes = l }) (append-nil (d .nodes))
+    ap (λ l. record {
+      done = d .done;
+      required = d .required;
+      blocks = d .blocks;
+      triples = d .triples;
+      nodes
+          = l;
+    }) (append-nil (d .nodes))
 
 -- Holds
 

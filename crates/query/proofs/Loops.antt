@@ -24,10 +24,13 @@ prefixed-push xs x (refused r q) = refl
 
 -- times
 
-module _ {S A : Type 0} (item : S → Reader A) (step : S → A → S) (whole : Read (List A)) (xs : List A) (s : S) (at : ℕ) (bs : List ℕ) where
+module _ {S A : Type 0} (item : S → Reader A) (step : S → A → S) (whole : Read (List A)) (xs : List A)
+    (s : S) (at : ℕ) (bs : List ℕ) where
   -- one item more was taken
-  pub times-more : (n : ℕ) (x : A) (after : ℕ) (rest : List ℕ) → whole ≡ prefixed xs (times (suc n) item step s at bs)
-      → item s at bs ≡ took x after rest → whole ≡ prefixed (xs ++ x ∷ []) (times n item step (step s x) after rest)
+  pub times-more : (n : ℕ) (x : A) (after : ℕ) (rest : List ℕ) → whole
+      ≡ prefixed xs (times (suc n) item step s at bs)
+      → item s at bs ≡ took x after rest → whole
+      ≡ prefixed (xs ++ x ∷ []) (times n item step (step s x) after rest)
   times-more n x after rest e t =
       e ∙ ap (λ m. prefixed xs (next m (λ a k l. one (times n item step (step s a)) (_∷_ a) k l))) t
       ∙ prefixed-push xs x (times n item step (step s x) after rest)
@@ -35,7 +38,8 @@ module _ {S A : Type 0} (item : S → Reader A) (step : S → A → S) (whole : 
   -- an item was refused
   pub times-refused : (n : ℕ) (r : Refusal) (q : ℕ) → whole ≡ prefixed xs (times (suc n) item step s at bs)
       → item s at bs ≡ refused r q → whole ≡ refused r q
-  times-refused n r q e t = e ∙ ap (λ m. prefixed xs (next m (λ a k l. one (times n item step (step s a)) (_∷_ a) k l))) t
+  times-refused n r q e t = e
+      ∙ ap (λ m. prefixed xs (next m (λ a k l. one (times n item step (step s a)) (_∷_ a) k l))) t
 
   -- no item is left
   pub times-done : whole ≡ prefixed xs (times zero item step s at bs) → whole ≡ took xs at bs
@@ -43,16 +47,23 @@ module _ {S A : Type 0} (item : S → Reader A) (step : S → A → S) (whole : 
 
 -- series
 
-module _ {S A : Type 0} (low high : ℕ) (item : S → Reader A) (step : S → A → S) (s : S) (at : ℕ) (bs : List ℕ) where
-  pub series-took : (n mid : ℕ) (more : List ℕ) (xs : List A) (after : ℕ) (rest : List ℕ) → count low high at bs ≡ took n mid more
-      → times n item step s mid more ≡ took xs after rest → series low high item step s at bs ≡ took xs after rest
+module _ {S A : Type 0} (low high : ℕ) (item : S → Reader A) (step : S → A → S) (s : S) (at : ℕ)
+    (bs : List ℕ) where
+  pub series-took : (n mid : ℕ) (more : List ℕ) (xs : List A) (after : ℕ) (rest : List ℕ)
+      → count low high at bs ≡ took n mid more
+      → times n item step s mid more ≡ took xs after rest → series low high item step s at bs
+      ≡ took xs after rest
   series-took n mid more xs after rest e t =
-      ap (λ m. next m (λ k a l. one (times k item step s) (λ ys. ys) a l)) e ∙ ap (λ m. next m (λ ys a l. took ys a l)) t
+      ap (λ m. next m (λ k a l. one (times k item step s) (λ ys. ys) a l)) e
+      ∙ ap (λ m. next m (λ ys a l. took ys a l)) t
 
-  pub series-refused : (n mid : ℕ) (more : List ℕ) (r : Refusal) (q : ℕ) → count low high at bs ≡ took n mid more
+  pub series-refused : (n mid : ℕ) (more : List ℕ) (r : Refusal) (q : ℕ) → count low high at bs
+      ≡ took n mid more
       → times n item step s mid more ≡ refused r q → series low high item step s at bs ≡ refused r q
   series-refused n mid more r q e t =
-      ap (λ m. next m (λ k a l. one (times k item step s) (λ ys. ys) a l)) e ∙ ap (λ m. next m (λ ys a l. took ys a l)) t
+      ap (λ m. next m (λ k a l. one (times k item step s) (λ ys. ys) a l)) e
+      ∙ ap (λ m. next m (λ ys a l. took ys a l)) t
 
-  pub series-uncounted : (r : Refusal) (q : ℕ) → count low high at bs ≡ refused r q → series low high item step s at bs ≡ refused r q
+  pub series-uncounted : (r : Refusal) (q : ℕ) → count low high at bs ≡ refused r q
+      → series low high item step s at bs ≡ refused r q
   series-uncounted r q e = ap (λ m. next m (λ k a l. one (times k item step s) (λ ys. ys) a l)) e

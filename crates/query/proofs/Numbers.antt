@@ -21,7 +21,8 @@ decoded-answer (decoded v k) n e =
     ap (λ m. decoded (m .value) (m .length)) same
 
 -- the number ends within the bytes
-pub number-within : (bytes : List ℕ) (at v k : ℕ) → decode (drop at bytes) ≡ decoded v k → at + k ≤ length bytes
+pub number-within : (bytes : List ℕ) (at v k : ℕ) → decode (drop at bytes) ≡ decoded v k → at + k
+    ≤ length bytes
 number-within bytes at v k e =
     let law = encode-decode (drop at bytes) v k e in
     let long = ap length (law .1) ∙ length-append (encode v) (drop k (drop at bytes)) in

@@ -21,19 +21,23 @@ use Rattle.query.proofs.Verdicts.{accepted-is-written, written-is-accepted, re
 
 -- refused
 
-pub unwritten-rejected : (bytes : List ℕ) (r : Refusal) (at : ℕ) → verdict bytes ≡ rejected r at → Unwritten bytes
+pub unwritten-rejected : (bytes : List ℕ) (r : Refusal) (at : ℕ) → verdict bytes ≡ rejected r at
+    → Unwritten bytes
 unwritten-rejected bytes r at e q h w =
     let yes = written-is-accepted bytes q h w in
     let both : accepted q ≡ rejected r at = sym yes ∙ e in
     let z : _≡_ {A = ℕ} 0 1 = cc in omega arith
 
-pub barred-rejected : (bytes : List ℕ) (e : Rejection) → verdict bytes ≡ rejected (e .refusal) (e .place) → Barred bytes e
+pub barred-rejected : (bytes : List ℕ) (e : Rejection) → verdict bytes ≡ rejected (e .refusal) (e .place)
+    → Barred bytes e
 barred-rejected bytes e v h other agree =
-    unwritten-rejected other (e .refusal) (e .place) (refused-for-good bytes other (e .refusal) (e .place) v h agree)
+    unwritten-rejected other (e .refusal) (e .place)
+    (refused-for-good bytes other (e .refusal) (e .place) v h agree)
 
 -- check
 
-pub checked-scanned : {T : Type 0} (bytes : List ℕ) (r : Result T Rejection) (b : Builder) → Scanned bytes r b → Checked bytes r
+pub checked-scanned : {T : Type 0} (bytes : List ℕ) (r : Result T Rejection) (b : Builder)
+    → Scanned bytes r b → Checked bytes r
 checked-scanned bytes (Ok x) b h = (h .0, h .1 .0)
 checked-scanned bytes (Err e) b h = h
 
@@ -45,5 +49,6 @@ told-checked bytes (Err e) h = (unwritten-rejected bytes (e .refusal) (e .place)
 
 pub recovered-answered : (bytes : List ℕ) (r : Result Query ReadError) → Answered bytes r → Recovered bytes r
 recovered-answered bytes (Ok q) h = let w = accepted-is-written bytes (shape q) h in (w .0, w .1)
-recovered-answered bytes (Err (Refused e)) h = (unwritten-rejected bytes (e .refusal) (e .place) h, barred-rejected bytes e h)
+recovered-answered bytes (Err (Refused e)) h
+    = (unwritten-rejected bytes (e .refusal) (e .place) h, barred-rejected bytes e h)
 recovered-answered bytes (Err Memory) (q, v) = let w = accepted-is-written bytes q v in (q, (w .0, w .1))

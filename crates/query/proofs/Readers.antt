@@ -52,23 +52,28 @@ pub record Stops {A : Type 0} (p : Reader A) (at : ℕ) (bs : List ℕ) (r : Ref
   pub ends : at + length used ≡ q + span (drop (q - at) bs)
 
 pub record Codec {A : Type 0} (p : Reader A) (enc : A → List ℕ) (Ok : A → Type 0) : Type 0 where
-  pub back : (a : A) (at : ℕ) (rest : List ℕ) → Ok a → p at (enc a ++ rest) ≡ took a (at + length (enc a)) rest
+  pub back : (a : A) (at : ℕ) (rest : List ℕ) → Ok a → p at (enc a ++ rest)
+      ≡ took a (at + length (enc a)) rest
   pub only : (at : ℕ) (bs : List ℕ) (a : A) (after : ℕ) (rest : List ℕ) → p at bs ≡ took a after rest
       → Ok a × (bs ≡ enc a ++ rest) × (after ≡ at + length (enc a))
-  pub stops : (at : ℕ) (bs : List ℕ) (r : Refusal) (q : ℕ) → p at bs ≡ refused r q → by-number r ≡ true → Stops p at bs r q
+  pub stops : (at : ℕ) (bs : List ℕ) (r : Refusal) (q : ℕ) → p at bs ≡ refused r q → by-number r ≡ true
+      → Stops p at bs r q
 
 -- the same codec, under another name for what is Ok
-pub codec-like : {A : Type 0} {p : Reader A} {enc : A → List ℕ} (Ok Like : A → Type 0) → ((a : A) → Like a → Ok a)
+pub codec-like : {A : Type 0} {p : Reader A} {enc : A → List ℕ} (Ok Like : A → Type 0)
+    → ((a : A) → Like a → Ok a)
     → ((a : A) → Ok a → Like a) → Codec p enc Ok → Codec p enc Like
 codec-like Ok Like there home codec = record {
   back = λ a at rest h. codec .back a at rest (there a h);
-  only = λ at bs a after rest t. let law = codec .only at bs a after rest t in (home a (law .0), law .1, law .2);
+  only = λ at bs a after rest t. let law = codec .only at bs a after rest t in
+      (home a (law .0), law .1, law .2);
   stops = codec .stops;
 }
 
 -- number
 
-number-at : (at : ℕ) (bs : List ℕ) (d : Decoded) (a after : ℕ) (rest : List ℕ) → decode bs ≡ d → numbered at bs d ≡ took a after rest
+number-at : (at : ℕ) (bs : List ℕ) (d : Decoded) (a after : ℕ) (rest : List ℕ) → decode bs ≡ d
+    → numbered at bs d ≡ took a after rest
     → (a ≤ largest) × (bs ≡ encode a ++ rest) × (after ≡ at + length (encode a))
 number-at at bs ends-early a after rest e t = let z : _≡_ {A = ℕ} 0 1 = cc in absurd (omega arith)
 number-at at bs malformed a after rest e t = let z : _≡_ {A = ℕ} 0 1 = cc in absurd (omega arith)
@@ -82,7 +87,8 @@ number-at at bs (decoded n k) a after rest e t =
       sym place ∙ ap (λ m. at + m) (law .2) ∙ ap (λ m. at + length (encode m)) same,
     )
 
-number-stops : (at : ℕ) (bs : List ℕ) (d : Decoded) (r : Refusal) (q : ℕ) → decode bs ≡ d → numbered at bs d ≡ refused r q
+number-stops : (at : ℕ) (bs : List ℕ) (d : Decoded) (r : Refusal) (q : ℕ) → decode bs ≡ d → numbered at bs d
+    ≡ refused r q
     → by-number r ≡ true → Stops number at bs r q
 number-stops at bs ends-early r q e t h =
     let r-is : r ≡ EndsEarly = cc in
@@ -138,10 +144,12 @@ module _ {A : Type 0} (why : Refusal) (f : ℕ → Option A) (g : A → ℕ) (Ok
   role-back : (a : A) (at : ℕ) (rest : List ℕ) → Ok a
       → role why f at (encode (g a) ++ rest) ≡ took a (at + length (encode (g a))) rest
   role-back a at rest h =
-      ap (λ m. next m (λ n after bs. meant why at (f n) after bs)) (number-codec .back (g a) at rest (forth a h .1))
+      ap (λ m. next m (λ n after bs. meant why at (f n) after bs))
+      (number-codec .back (g a) at rest (forth a h .1))
       ∙ ap (λ o. meant why at o (at + length (encode (g a))) rest) (forth a h .0)
 
-  role-only : (at : ℕ) (bs : List ℕ) (a : A) (after : ℕ) (rest : List ℕ) → role why f at bs ≡ took a after rest
+  role-only : (at : ℕ) (bs : List ℕ) (a : A) (after : ℕ) (rest : List ℕ) → role why f at bs
+      ≡ took a after rest
       → Ok a × (bs ≡ encode (g a) ++ rest) × (after ≡ at + length (encode (g a)))
   role-only at bs a after rest t =
       let s = next-took (number at bs) (λ n mid more. meant why at (f n) mid more) a after rest t in
@@ -153,7 +161,8 @@ module _ {A : Type 0} (why : Refusal) (f : ℕ → Option A) (g : A → ℕ) (Ok
         sym (m .1) ∙ law .2 ∙ ap (λ n. at + length (encode n)) (sym (h .1)),
       )
 
-  role-stops : (at : ℕ) (bs : List ℕ) (r : Refusal) (q : ℕ) → role why f at bs ≡ refused r q → by-number r ≡ true
+  role-stops : (at : ℕ) (bs : List ℕ) (r : Refusal) (q : ℕ) → role why f at bs ≡ refused r q → by-number r
+      ≡ true
       → Stops (role why f) at bs r q
   role-stops at bs r q t h =
       ⊎-elim
@@ -171,13 +180,15 @@ module _ {A : Type 0} (why : Refusal) (f : ℕ → Option A) (g : A → ℕ) (Ok
       let none : q - at ≡ 0 = omega (arith, m .2) in
       let k = length (encode (s .value)) in
       let spans : span bs ≡ k =
-      ap span (law .1) ∙ span-decoded (encode (s .value) ++ s .bytes) (s .value) k (decode-encode (s .value) (s .bytes) (law .0)) in
+      ap span (law .1) ∙ span-decoded (encode (s .value) ++ s .bytes) (s .value) k
+      (decode-encode (s .value) (s .bytes) (law .0)) in
       record {
         used = encode (s .value);
         rest = s .bytes;
         parted = law .1;
         alike = λ other.
-            ap (λ m. next m (λ n after more. meant why at (f n) after more)) (number-codec .back (s .value) at other (law .0))
+            ap (λ m. next m (λ n after more. meant why at (f n) after more))
+            (number-codec .back (s .value) at other (law .0))
             ∙ ap (λ o. meant why at o (at + k) other) (m .0)
             ∙ ap (λ w. refused w at) (m .1) ∙ ap (refused r) (m .2);
         reached = omega (arith, m .2);

@@ -24,16 +24,24 @@ use Rattle.query.proofs.Readers.{Step, next-took, next-refused, Stops, Codec, 
 -- one
 
 module _ {A B : Type 0} (p : Reader A) (c : A → B) where
-  pub one-took : (at : ℕ) (bs : List ℕ) (x : B) (after : ℕ) (rest : List ℕ) → one p c at bs ≡ took x after rest
+  pub one-took : (at : ℕ) (bs : List ℕ) (x : B) (after : ℕ) (rest : List ℕ) → one p c at bs
+      ≡ took x after rest
       → (a : A) × ((p at bs ≡ took a after rest) × (x ≡ c a))
   one-took at bs x after rest t =
       let s = next-took (p at bs) (λ a mid more. took (c a) mid more) x after rest t in
       let e = s .gives in
       let place : s .at ≡ after = cc in
-      let behind : s .bytes ≡ rest = cc in
-      (s .value, (s .was ∙ ap (λ n. took (s .value) n (s .bytes)) place ∙ ap (took (s .value) after) behind, cc))
+      let behind : s .bytes ≡ rest = cc in (
+        s .value,
+        (
+          s .was ∙ ap (λ n. took (s .value) n (s .bytes)) place
+              ∙ ap (took (s .value) after) behind,
+          cc,
+        ),
+      )
 
-  pub one-refused : (at : ℕ) (bs : List ℕ) (r : Refusal) (q : ℕ) → one p c at bs ≡ refused r q → p at bs ≡ refused r q
+  pub one-refused : (at : ℕ) (bs : List ℕ) (r : Refusal) (q : ℕ) → one p c at bs ≡ refused r q → p at bs
+      ≡ refused r q
   one-refused at bs r q t =
       ⊎-elim (λ e. e)
       (λ s. let e = s .gives in let z : _≡_ {A = ℕ} 0 1 = cc in absurd (omega arith))
@@ -52,7 +60,8 @@ module _ {A B : Type 0} (p : Reader A) (c : A → B) where
 -- both
 
 -- what two parts took, one behind the other
-pub record Pair {A B C : Type 0} (p : Reader A) (q : A → Reader B) (c : A → B → C) (at : ℕ) (bs : List ℕ) (x : C) (after : ℕ)
+pub record Pair {A B C : Type 0} (p : Reader A) (q : A → Reader B) (c : A → B → C) (at : ℕ) (bs : List ℕ)
+    (x : C) (after : ℕ)
     (rest : List ℕ) : Type 0 where
   pub first : A
   pub second : B
@@ -63,7 +72,8 @@ pub record Pair {A B C : Type 0} (p : Reader A) (q : A → Reader B) (c : A → 
   pub made : x ≡ c first second
 
 module _ {A B C : Type 0} (p : Reader A) (q : A → Reader B) (c : A → B → C) where
-  pub both-took : (at : ℕ) (bs : List ℕ) (x : C) (after : ℕ) (rest : List ℕ) → both p q c at bs ≡ took x after rest
+  pub both-took : (at : ℕ) (bs : List ℕ) (x : C) (after : ℕ) (rest : List ℕ) → both p q c at bs
+      ≡ took x after rest
       → Pair p q c at bs x after rest
   both-took at bs x after rest t =
       let s = next-took (p at bs) (λ a mid more. one (q a) (c a) mid more) x after rest t in
@@ -79,7 +89,8 @@ module _ {A B C : Type 0} (p : Reader A) (q : A → Reader B) (c : A → B → C
       }
 
   -- both parts read from where they stand
-  pub both-from : (at mid : ℕ) (bs more : List ℕ) (a : A) (b : B) (after : ℕ) (rest : List ℕ) → p at bs ≡ took a mid more
+  pub both-from : (at mid : ℕ) (bs more : List ℕ) (a : A) (b : B) (after : ℕ) (rest : List ℕ) → p at bs
+      ≡ took a mid more
       → q a mid more ≡ took b after rest → both p q c at bs ≡ took (c a b) after rest
   both-from at mid bs more a b after rest e f =
       ap (λ m. next m (λ y n l. one (q y) (c y) n l)) e ∙ ap (λ m. next m (λ y n l. took (c a y) n l)) f
@@ -91,11 +102,13 @@ module _ {A B C : Type 0} (p : Reader A) (q : A → Reader B) (c : A → B → C
         → both p q c at ((enc a ++ code) ++ rest) ≡ took (c a b) (at + length (enc a ++ code)) rest
     both-back a b code at rest h e =
         ap (both p q c at) (append-assoc (enc a) code rest)
-        ∙ both-from at (at + length (enc a)) (enc a ++ (code ++ rest)) (code ++ rest) a b (at + length (enc a) + length code) rest
+        ∙ both-from at (at + length (enc a)) (enc a ++ (code ++ rest)) (code ++ rest) a b
+        (at + length (enc a) + length code) rest
         (first .back a at (code ++ rest) h) e
         ∙ ap (λ n. took (c a b) n rest) (omega (arith, length-append (enc a) code))
 
-    pub both-stops : (at : ℕ) (bs : List ℕ) (r : Refusal) (z : ℕ) → both p q c at bs ≡ refused r z → by-number r ≡ true
+    pub both-stops : (at : ℕ) (bs : List ℕ) (r : Refusal) (z : ℕ) → both p q c at bs ≡ refused r z
+        → by-number r ≡ true
         → ((a : A) (mid : ℕ) (more : List ℕ) → Ok a → q a mid more ≡ refused r z → Stops (q a) mid more r z)
         → Stops (both p q c) at bs r z
     both-stops at bs r z t h later =
@@ -117,7 +130,8 @@ module _ {A B C : Type 0} (p : Reader A) (q : A → Reader B) (c : A → B → C
         let apart : z - at ≡ k + (z - s .at) = omega (arith, law .2, i .reached) in
         let skipped : drop (z - at) bs ≡ drop (z - s .at) (s .bytes) =
         ap (λ n. drop n bs) apart ∙ sym (drop-drop (z - s .at) k bs)
-        ∙ ap (λ l. drop (z - s .at) (drop k l)) (law .1) ∙ ap (drop (z - s .at)) (drop-at (enc a) (s .bytes) k refl) in
+        ∙ ap (λ l. drop (z - s .at) (drop k l)) (law .1)
+        ∙ ap (drop (z - s .at)) (drop-at (enc a) (s .bytes) k refl) in
         record {
           used = enc a ++ i .used;
           rest = i .rest;
@@ -133,7 +147,8 @@ module _ {A B C : Type 0} (p : Reader A) (q : A → Reader B) (c : A → B → C
         (next-refused (p at bs) (λ a mid more. one (q a) (c a) mid more) r z t)
 
     -- two parts make a codec where what they make can be taken apart again
-    pub both-codec : (encB : B → List ℕ) (OkB : A → B → Type 0) (second : (a : A) → Ok a → Codec (q a) encB (OkB a))
+    pub both-codec : (encB : B → List ℕ) (OkB : A → B → Type 0) (second : (a : A) → Ok a
+        → Codec (q a) encB (OkB a))
         (left : C → A) (right : C → B)
         → ((x : C) → c (left x) (right x) ≡ x)
         → ((a : A) (b : B) → OkB a b → (left (c a b) ≡ a) × (right (c a b) ≡ b))
@@ -146,14 +161,20 @@ module _ {A B C : Type 0} (p : Reader A) (q : A → Reader B) (c : A → B → C
       only = λ at bs x after rest t.
           let s = both-took at bs x after rest t in
           let f = first .only at bs (s .first) (s .middle) (s .between) (s .first-took) in
-          let g = second (s .first) (f .0) .only (s .middle) (s .between) (s .second) after rest (s .second-took) in
+          let g = second (s .first) (f .0) .only (s .middle) (s .between) (s .second) after rest
+          (s .second-took) in
           let parts = apart (s .first) (s .second) (g .0) in
           let l : left x ≡ s .first = ap left (s .made) ∙ parts .0 in
           let r : right x ≡ s .second = ap right (s .made) ∙ parts .1 in
           let code : enc (left x) ++ encB (right x) ≡ enc (s .first) ++ encB (s .second) =
           ap (λ a. enc a ++ encB (right x)) l ∙ ap (λ b. enc (s .first) ++ encB b) r in (
-            (subst Ok (sym l) (f .0), subst (λ a. OkB a (right x)) (sym l) (subst (OkB (s .first)) (sym r) (g .0))),
-            f .1 ∙ ap (λ y. enc (s .first) ++ y) (g .1) ∙ sym (append-assoc (enc (s .first)) (encB (s .second)) rest)
+            (
+              subst Ok (sym l) (f .0),
+              subst (λ a. OkB a (right x)) (sym l)
+                  (subst (OkB (s .first)) (sym r) (g .0)),
+            ),
+            f .1 ∙ ap (λ y. enc (s .first) ++ y) (g .1)
+                ∙ sym (append-assoc (enc (s .first)) (encB (s .second)) rest)
                 ∙ ap (λ y. y ++ rest) (sym code),
             omega (arith, f .2, g .2, length-append (enc (s .first)) (encB (s .second)), ap length code),
           );
@@ -172,47 +193,63 @@ Each Ok step s (x ∷ xs) = Ok s x × Each Ok step (step s x) xs
 module _ {S A : Type 0} (item : S → Reader A) (step : S → A → S) (enc : A → List ℕ) (Ok : S → A → Type 0)
     (Good : ℕ → S → Type 0) (goes : (n : ℕ) (s : S) (a : A) → Good (suc n) s → Ok s a → Good n (step s a))
     (items : (n : ℕ) (s : S) → Good (suc n) s → Codec (item s) enc (Ok s)) where
-  times-back : (n : ℕ) (s : S) (xs : List A) (at : ℕ) (rest : List ℕ) → Good n s → length xs ≡ n → Each Ok step s xs
+  times-back : (n : ℕ) (s : S) (xs : List A) (at : ℕ) (rest : List ℕ) → Good n s → length xs ≡ n
+      → Each Ok step s xs
       → times n item step s at (joined enc xs ++ rest) ≡ took xs (at + length (joined enc xs)) rest
   times-back zero s [] at rest good l h = ap (λ n. took [] n rest) (omega arith)
   times-back zero s (x ∷ xs) at rest good l h = absurd (omega arith)
   times-back (suc n) s [] at rest good l h = absurd (omega arith)
   times-back (suc n) s (x ∷ xs) at rest good l h =
-      both-back (item s) (λ a. times n item step (step s a)) _∷_ enc (Ok s) (items n s good) x xs (joined enc xs) at rest (h .0)
+      both-back (item s) (λ a. times n item step (step s a)) _∷_ enc (Ok s) (items n s good) x xs
+      (joined enc xs) at rest (h .0)
       (times-back n (step s x) xs (at + length (enc x)) rest (goes n s x good (h .0)) (omega arith) (h .1))
 
   times-only : (n : ℕ) (s : S) (at : ℕ) (bs : List ℕ) (xs : List A) (after : ℕ) (rest : List ℕ)
       → Good n s → times n item step s at bs ≡ took xs after rest
-      → ((length xs ≡ n) × Each Ok step s xs) × (bs ≡ joined enc xs ++ rest) × (after ≡ at + length (joined enc xs))
+      → ((length xs ≡ n) × Each Ok step s xs) × (bs ≡ joined enc xs ++ rest)
+      × (after ≡ at + length (joined enc xs))
   times-only zero s at bs xs after rest good t =
       let e : [] ≡ xs = cc in
       let behind : bs ≡ rest = cc in
       let place : at ≡ after = cc in
-      subst (λ ys. ((length ys ≡ 0) × Each Ok step s ys) × (bs ≡ joined enc ys ++ rest) × (after ≡ at + length (joined enc ys))) e
+      subst (λ ys. ((length ys ≡ 0) × Each Ok step s ys) × (bs ≡ joined enc ys ++ rest)
+      × (after ≡ at + length (joined enc ys))) e
       ((refl, tt), behind, omega arith)
   times-only (suc n) s at bs xs after rest good t =
       let r = both-took (item s) (λ a. times n item step (step s a)) _∷_ at bs xs after rest t in
       let x = r .first in
       let ys = r .second in
       let f = items n s good .only at bs x (r .middle) (r .between) (r .first-took) in
-      let g = times-only n (step s x) (r .middle) (r .between) ys after rest (goes n s x good (f .0)) (r .second-took) in
+      let g = times-only n (step s x) (r .middle) (r .between) ys after rest (goes n s x good (f .0))
+      (r .second-took) in
       subst
-      (λ zs. ((length zs ≡ suc n) × Each Ok step s zs) × (bs ≡ joined enc zs ++ rest) × (after ≡ at + length (joined enc zs)))
+      (λ zs. ((length zs ≡ suc n) × Each Ok step s zs) × (bs ≡ joined enc zs ++ rest)
+      × (after ≡ at + length (joined enc zs)))
       (sym (r .made)) (
         (ap suc (g .0 .0), (f .0, g .0 .1)),
         f .1 ∙ ap (λ l. enc x ++ l) (g .1) ∙ sym (append-assoc (enc x) (joined enc ys) rest),
         omega (arith, f .2, g .2, length-append (enc x) (joined enc ys)),
       )
 
-  times-stops : (n : ℕ) (s : S) (at : ℕ) (bs : List ℕ) (r : Refusal) (q : ℕ) → Good n s → times n item step s at bs ≡ refused r q
+  times-stops : (n : ℕ) (s : S) (at : ℕ) (bs : List ℕ) (r : Refusal) (q : ℕ) → Good n s
+      → times n item step s at bs ≡ refused r q
       → by-number r ≡ true → Stops (times n item step s) at bs r q
   times-stops zero s at bs r q good t h = let z : _≡_ {A = ℕ} 0 1 = cc in absurd (omega arith)
   times-stops (suc n) s at bs r q good t h =
-      let i = both-stops (item s) (λ a. times n item step (step s a)) _∷_ enc (Ok s) (items n s good) at bs r q t h
+      let i = both-stops (item s) (λ a. times n item step (step s a)) _∷_ enc (Ok s) (items n s good) at bs r
+      q t h
       (λ a mid more ok e. times-stops n (step s a) mid more r q (goes n s a good ok) e h) in
-      record { used = i .used; rest = i .rest; parted = i .parted; alike = i .alike; reached = i .reached; ends = i .ends }
+      record {
+        used = i .used;
+        rest = i .rest;
+        parted = i .parted;
+        alike = i .alike;
+        reached = i .reached;
+        ends = i .ends;
+      }
 
-  pub times-codec : (n : ℕ) (s : S) → Good n s → Codec (times n item step s) (joined enc) (λ xs. (length xs ≡ n) × Each Ok step s xs)
+  pub times-codec : (n : ℕ) (s : S) → Good n s
+      → Codec (times n item step s) (joined enc) (λ xs. (length xs ≡ n) × Each Ok step s xs)
   times-codec n s good = record {
     back = λ xs at rest h. times-back n s xs at rest good (h .0) (h .1);
     only = λ at bs xs after rest t. times-only n s at bs xs after rest good t;
@@ -221,14 +258,16 @@ module _ {S A : Type 0} (item : S → Reader A) (step : S → A → S) (enc : A 
 
 -- series
 
-pub count-codec : (low high : ℕ) → high ≤ largest → Codec (count low high) encode (λ n. within low high n ≡ true)
+pub count-codec : (low high : ℕ) → high ≤ largest
+    → Codec (count low high) encode (λ n. within low high n ≡ true)
 count-codec low high h =
     tested-codec CountOutside (within low high)
     (λ n w. omega (arith, leb-true n high (and-parts (leb low n) (leb n high) w .1)))
 
 module _ {S A : Type 0} (item : S → Reader A) (step : S → A → S) (enc : A → List ℕ) (Ok : S → A → Type 0)
     (Good : ℕ → S → Type 0) (goes : (n : ℕ) (s : S) (a : A) → Good (suc n) s → Ok s a → Good n (step s a))
-    (items : (n : ℕ) (s : S) → Good (suc n) s → Codec (item s) enc (Ok s)) (low high : ℕ) (small : high ≤ largest) where
+    (items : (n : ℕ) (s : S) → Good (suc n) s → Codec (item s) enc (Ok s)) (low high : ℕ)
+    (small : high ≤ largest) where
   pub series-codec : (s : S) → ((n : ℕ) → n ≤ high → Good n s)
       → Codec (series low high item step s) (counted enc)
       (λ xs. (within low high (length xs) ≡ true) × ((length xs ≡ length xs) × Each Ok step s xs))
@@ -236,5 +275,6 @@ module _ {S A : Type 0} (item : S → Reader A) (step : S → A → S) (enc : A 
       both-codec (count low high) (λ n. times n item step s) (λ n xs. xs)
       encode (λ n. within low high n ≡ true) (count-codec low high small)
       (joined enc) (λ n xs. (length xs ≡ n) × Each Ok step s xs)
-      (λ n w. times-codec item step enc Ok Good goes items n s (good n (leb-true n high (and-parts (leb low n) (leb n high) w .1))))
+      (λ n w. times-codec item step enc Ok Good goes items n s
+      (good n (leb-true n high (and-parts (leb low n) (leb n high) w .1))))
       length (λ xs. xs) (λ xs. refl) (λ n xs h. (h .0, refl))

@@ -19,7 +19,8 @@ use Rattle.query.specs.declared.node.Node.the-variants.{Equal, Less, Bound, No
 use Rattle.query.specs.declared.pattern.TriplePattern.{TriplePattern}
 use Rattle.query.specs.Codes.{within}
 use Rattle.query.specs.Format.{counted}
-use Rattle.query.specs.Lawful.{every, lawful-triple, lawful-triples, lawful-node, lawful-nodes, lawful-filter, most-in-part}
+use Rattle.query.specs.Lawful.{every, lawful-triple, lawful-triples, lawful-node, lawful-nodes, lawful-filter}
+use Rattle.query.specs.Lawful.{most-in-part}
 use Rattle.query.specs.Writes.{places-lawful}
 
 -- few enough to count in 32 bits, and each is ok
@@ -28,20 +29,24 @@ Writable ok xs = (length xs ≤ largest) × All (λ x. ok x ≡ true) xs
 
 -- every
 
-all-every : {A B : Type 0} (f : A → B) (ok : B → Bool) (xs : List A) → every ok (map f xs) ≡ true → All (λ x. ok (f x) ≡ true) xs
+all-every : {A B : Type 0} (f : A → B) (ok : B → Bool) (xs : List A) → every ok (map f xs) ≡ true
+    → All (λ x. ok (f x) ≡ true) xs
 all-every f ok [] h = tt
-all-every f ok (x ∷ xs) h = let w = and-parts (ok (f x)) (every ok (map f xs)) h in (w .0, all-every f ok xs (w .1))
+all-every f ok (x ∷ xs) h = let w = and-parts (ok (f x)) (every ok (map f xs)) h in
+    (w .0, all-every f ok xs (w .1))
 
 all-every-plain : {A : Type 0} (ok : A → Bool) (xs : List A) → every ok xs ≡ true → All (λ x. ok x ≡ true) xs
 all-every-plain ok [] h = tt
-all-every-plain ok (x ∷ xs) h = let w = and-parts (ok x) (every ok xs) h in (w .0, all-every-plain ok xs (w .1))
+all-every-plain ok (x ∷ xs) h = let w = and-parts (ok x) (every ok xs) h in
+    (w .0, all-every-plain ok xs (w .1))
 
 few : (low high n : ℕ) → high ≤ most-in-part → within low high n ≡ true → n ≤ largest
 few low high n s h = omega (arith, leb-true n high (and-parts (leb low n) (leb n high) h .1))
 
 -- triples
 
-pub triples-writable : (low : ℕ) (ts : List TriplePattern) → lawful-triples low ts ≡ true → Writable lawful-triple ts
+pub triples-writable : (low : ℕ) (ts : List TriplePattern) → lawful-triples low ts ≡ true
+    → Writable lawful-triple ts
 triples-writable low ts h =
     let w = and-parts (within low most-in-part (length ts)) (every lawful-triple ts) h in
     (few low most-in-part (length ts) (omega arith) (w .0), all-every-plain lawful-triple ts (w .1))
@@ -59,7 +64,8 @@ node-places i (Or a b) h = refl
 nodes-places : (i : ℕ) (ns : List Node) → lawful-nodes i ns ≡ true → All (λ n. places-lawful n ≡ true) ns
 nodes-places i [] h = tt
 nodes-places i (n ∷ ns) h =
-    let w = and-parts (lawful-node i n) (lawful-nodes (i + 1) ns) h in (node-places i n (w .0), nodes-places (i + 1) ns (w .1))
+    let w = and-parts (lawful-node i n) (lawful-nodes (i + 1) ns) h in
+    (node-places i n (w .0), nodes-places (i + 1) ns (w .1))
 
 pub filter-writable : (ns : List Node) → lawful-filter ns ≡ true → Writable places-lawful ns
 filter-writable ns h =
@@ -68,15 +74,19 @@ filter-writable ns h =
 
 -- parts seen through f
 
-pub mapped-writable : {A B : Type 0} (f : A → B) (ok : B → Bool) (low high : ℕ) (xs : List A) → high ≤ most-in-part
+pub mapped-writable : {A B : Type 0} (f : A → B) (ok : B → Bool) (low high : ℕ) (xs : List A) → high
+    ≤ most-in-part
     → within low high (length (map f xs)) ≡ true → every ok (map f xs) ≡ true → Writable (λ x. ok (f x)) xs
 mapped-writable f ok low high xs s h e =
     (omega (arith, few low high (length (map f xs)) s h, length-map xs f), all-every f ok xs e)
 
-joined-map : {A B : Type 0} (f : A → B) (code : B → List ℕ) (xs : List A) → joined (λ x. code (f x)) xs ≡ joined code (map f xs)
+joined-map : {A B : Type 0} (f : A → B) (code : B → List ℕ) (xs : List A) → joined (λ x. code (f x)) xs
+    ≡ joined code (map f xs)
 joined-map f code [] = refl
 joined-map f code (x ∷ xs) = ap (λ l. code (f x) ++ l) (joined-map f code xs)
 
-pub counted-map : {A B : Type 0} (f : A → B) (code : B → List ℕ) (xs : List A) → counted (λ x. code (f x)) xs ≡ counted code (map f xs)
+pub counted-map : {A B : Type 0} (f : A → B) (code : B → List ℕ) (xs : List A) → counted (λ x. code (f x)) xs
+    ≡ counted code (map f xs)
 counted-map f code xs =
-    ap (λ n. encode n ++ joined (λ x. code (f x)) xs) (sym (length-map xs f)) ∙ ap (λ l. encode (length (map f xs)) ++ l) (joined-map f code xs)
+    ap (λ n. encode n ++ joined (λ x. code (f x)) xs) (sym (length-map xs f))
+    ∙ ap (λ l. encode (length (map f xs)) ++ l) (joined-map f code xs)

@@ -16,7 +16,8 @@ pub record Tracks (b : Builder) (d : Draft) : Type 0 where
   pub part : Gathers (b .part) (d .triples)
   pub required : Gathers (b .required) (d .required)
   pub counted : b .count ≡ length (d .blocks)
-  pub blocks : (k : ℕ) (s : VariableSet) (p : Part) → k < length (d .blocks) → Gathers (getD (b .blocks) k s) (getD (d .blocks) k p .triples)
+  pub blocks : (k : ℕ) (s : VariableSet) (p : Part) → k < length (d .blocks)
+      → Gathers (getD (b .blocks) k s) (getD (d .blocks) k p .triples)
   pub shared : b .shared ≡ some shares (d .done)
   pub kept : Keeps (b .kept) d
 

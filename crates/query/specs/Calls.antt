@@ -40,16 +40,31 @@ pub record Holds (b : Builder) (d : Draft) (u : Used) : Type 0 where
 -- the draft with these triples more in the part in work
 abbrev pub with-triples-in : Draft → List TriplePattern → Draft
 with-triples-in d ts =
-    record { done = d .done; required = d .required; blocks = d .blocks; triples = d .triples ++ ts; nodes = d .nodes }
+    record {
+      done = d .done;
+      required = d .required;
+      blocks = d .blocks;
+      triples = d .triples ++ ts;
+      nodes
+          = d .nodes;
+    }
 
 -- the draft with these nodes more in the filter in work
 abbrev pub with-nodes-in : Draft → List Node → Draft
 with-nodes-in d ns =
-    record { done = d .done; required = d .required; blocks = d .blocks; triples = d .triples; nodes = d .nodes ++ ns }
+    record {
+      done = d .done;
+      required = d .required;
+      blocks = d .blocks;
+      triples = d .triples;
+      nodes
+          = d .nodes ++ ns;
+    }
 
 -- the draft in which these alternatives, required triples and blocks are finished, and no part is in work
 abbrev pub finished : List Group → List TriplePattern → List Part → Draft
-finished done required blocks = record { done = done; required = required; blocks = blocks; triples = []; nodes = [] }
+finished done required blocks = record
+    { done = done; required = required; blocks = blocks; triples = []; nodes = [] }
 
 -- the byte string is a query, and the builder tracks it; or it is refused
 abbrev pub Scanned : {T : Type 0} → List ℕ → Result T Rejection → Builder → Type 0

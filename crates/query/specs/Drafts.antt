@@ -27,16 +27,30 @@ fresh = record { done = []; required = []; blocks = []; triples = []; nodes = []
 -- a triple more in the part in work
 abbrev pub with-triple : Draft → TriplePattern → Draft
 with-triple d t =
-    record { done = d .done; required = d .required; blocks = d .blocks; triples = d .triples ++ t ∷ []; nodes = d .nodes }
+    record {
+      done = d .done;
+      required = d .required;
+      blocks = d .blocks;
+      triples = d .triples ++ t ∷ [];
+      nodes = d .nodes;
+    }
 
 -- a node more in the filter in work
 abbrev pub with-node : Draft → node.Node → Draft
 with-node d n =
-    record { done = d .done; required = d .required; blocks = d .blocks; triples = d .triples; nodes = d .nodes ++ n ∷ [] }
+    record {
+      done = d .done;
+      required = d .required;
+      blocks = d .blocks;
+      triples = d .triples;
+      nodes
+          = d .nodes ++ n ∷ [];
+    }
 
 -- the triples in work are the required ones
 abbrev pub required-ended : Draft → Draft
-required-ended d = record { done = d .done; required = d .triples; blocks = d .blocks; triples = []; nodes = d .nodes }
+required-ended d = record
+    { done = d .done; required = d .triples; blocks = d .blocks; triples = []; nodes = d .nodes }
 
 -- the triples and nodes in work are a block
 abbrev pub block-ended : Draft → Draft

@@ -55,7 +55,8 @@ part-bytes b = counted triple-bytes (b .triples) ++ counted node-bytes (b .filte
 
 -- an alternative: its required triples, its blocks, its group filter
 abbrev pub group-bytes : Group → List ℕ
-group-bytes g = counted triple-bytes (g .required) ++ (counted part-bytes (g .blocks) ++ counted node-bytes (g .filter))
+group-bytes g = counted triple-bytes (g .required) ++
+    (counted part-bytes (g .blocks) ++ counted node-bytes (g .filter))
 
 -- a query: its alternatives
 abbrev pub bytes-of : List Group → List ℕ

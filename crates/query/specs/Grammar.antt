@@ -13,7 +13,8 @@ use Rattle.std.specs.declared.option.Option.{Option}
 use Rattle.std.specs.declared.option.Option.the-variants.{Some, None}
 use Rattle.varint.specs.Decode.{Decoded, ends-early, malformed, decoded, decode}
 use Rattle.refusal.specs.declared.refusal.Refusal.{Refusal}
-use Rattle.refusal.specs.declared.refusal.Refusal.the-variants.{EndsEarly, Malformed, CountOutside, PlaceCode, NodeInvalid, BytesLeft, SharedByBlocks}
+use Rattle.refusal.specs.declared.refusal.Refusal.the-variants.{EndsEarly, Malformed, CountOutside, PlaceCode}
+use Rattle.refusal.specs.declared.refusal.Refusal.the-variants.{NodeInvalid, BytesLeft, SharedByBlocks}
 use Rattle.query.specs.declared.place.Place.{Place}
 use Rattle.query.specs.declared.kind.Kind.{Kind}
 use Rattle.query.specs.declared.kind.Kind.the-variants as kinds
@@ -22,7 +23,8 @@ use Rattle.query.specs.declared.node.Node.the-variants.{Equal, Less, Bound, No
 use Rattle.query.specs.declared.pattern.TriplePattern.{TriplePattern}
 use Rattle.query.specs.Parts.{Part, Group}
 use Rattle.query.specs.Codes.{within, when, place-from, kind-from, most-variable}
-use Rattle.query.specs.Lawful.{total, triples-in, nodes-in, shares, some, most-alternatives, most-blocks, most-in-part, most-in-all}
+use Rattle.query.specs.Lawful.{total, triples-in, nodes-in, shares, some, most-alternatives, most-blocks}
+use Rattle.query.specs.Lawful.{most-in-part, most-in-all}
 
 -- a value was taken, with the place behind it and the bytes from there on; or a number was refused at its place
 pub data Read (A : Type 0) : Type 0 where
@@ -132,7 +134,8 @@ pub record Used : Type 0 where
 
 -- a block
 abbrev pub block : Used → Reader Part
-block u = both (triples 1 (u .triples)) (λ _. filter (u .nodes)) (λ ts ns. record { triples = ts; filter = ns })
+block u = both (triples 1 (u .triples)) (λ _. filter (u .nodes))
+    (λ ts ns. record { triples = ts; filter = ns })
 
 -- what is used with a block more
 abbrev pub with-part : Used → Part → Used
@@ -152,7 +155,8 @@ nodes-after u bs = u .nodes + total (λ b. length (b .filter)) bs
 
 -- what is used with these blocks more
 abbrev pub with-parts : Used → List Part → Used
-with-parts u bs = record { triples = u .triples + total (λ b. length (b .triples)) bs; nodes = nodes-after u bs }
+with-parts u bs = record
+    { triples = u .triples + total (λ b. length (b .triples)) bs; nodes = nodes-after u bs }
 
 -- what is used with so many nodes more
 abbrev pub with-nodes : Used → ℕ → Used

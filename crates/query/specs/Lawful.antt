@@ -87,7 +87,8 @@ is-variable v (Term t) = false
 
 -- the variable v is in one of the triples
 abbrev pub mentions : ℕ → List TriplePattern → Bool
-mentions v ts = some (λ t. is-variable v (t .subject) || (is-variable v (t .property) || is-variable v (t .object))) ts
+mentions v ts = some (λ t. is-variable v (t .subject)
+    || (is-variable v (t .property) || is-variable v (t .object))) ts
 
 -- some variable below n is in the triples of two blocks and not in the required triples
 abbrev pub shared-below : ℕ → Group → Bool
@@ -111,7 +112,8 @@ nodes-in g = total (λ b. length (b .filter)) (g .blocks) + length (g .filter)
 abbrev pub lawful-group : Group → Bool
 lawful-group g =
     lawful-triples 0 (g .required)
-    && (within 0 most-blocks (length (g .blocks)) && (every lawful-part (g .blocks) && lawful-filter (g .filter)))
+    && (within 0 most-blocks (length (g .blocks))
+    && (every lawful-part (g .blocks) && lawful-filter (g .filter)))
 
 -- a query keeps its limits
 abbrev pub limited : List Group → Bool

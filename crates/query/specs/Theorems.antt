@@ -24,7 +24,8 @@ Accepted-exactly = (bytes : List ℕ) (q : List Group)
 -- no two byte strings are the same query, and no two lawful queries have the same bytes
 abbrev pub One-writing-each : Type 0
 One-writing-each =
-    ((bytes other : List ℕ) (q : List Group) → verdict bytes ≡ accepted q → verdict other ≡ accepted q → bytes ≡ other)
+    ((bytes other : List ℕ) (q : List Group) → verdict bytes ≡ accepted q → verdict other ≡ accepted q
+    → bytes ≡ other)
     × ((q r : List Group) → lawful q ≡ true → lawful r ≡ true → bytes-of q ≡ bytes-of r → q ≡ r)
 
 -- r refuses one number for what it is
@@ -37,5 +38,6 @@ number-end at bytes = at + span (drop at bytes)
 
 -- after a refusal of one number, every byte string that agrees up to the end of that number is refused alike
 abbrev pub Refused-for-good : Type 0
-Refused-for-good = (bytes other : List ℕ) (r : Refusal) (at : ℕ) → verdict bytes ≡ rejected r at → by-number r ≡ true
+Refused-for-good = (bytes other : List ℕ) (r : Refusal) (at : ℕ) → verdict bytes ≡ rejected r at
+    → by-number r ≡ true
     → take (number-end at bytes) other ≡ take (number-end at bytes) bytes → verdict other ≡ rejected r at

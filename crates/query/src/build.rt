@@ -5,7 +5,8 @@ ghost use lib.ListN.{length};
 ghost use Rattle.query.specs.Building.{Tracks, used-of};
 ghost use Rattle.query.specs.Drafts.{Draft, fresh, stepped, Keeps};
 ghost use Rattle.query.specs.Grammar.{room, unused, with-triples, with-nodes};
-ghost use Rattle.query.specs.declared.step.Step.the-variants.{Triple, Node as NodeStep, EndRequired, EndBlock, EndAlternative};
+ghost use Rattle.query.specs.declared.step.Step.the-variants.{Triple, Node as NodeStep, EndRequired};
+ghost use Rattle.query.specs.declared.step.Step.the-variants.{EndBlock, EndAlternative};
 use crate::builder::Builder;
 use crate::keep::keep;
 use crate::kept::Kept;
@@ -58,7 +59,8 @@ impl Builder {
     /// A triple of the part in work.
     pub(crate) fn triple(&mut self, triple: TriplePattern)
         requires { ⌜ now self .triples < 64 ⌝ }
-        ensures tracks { λ _. ⌜ ((d : Draft) → Tracks (now (self .entry)) d → Tracks (now (self .exit)) (stepped d (Triple triple))) ⌝ }
+        ensures tracks { λ _. ⌜ ((d : Draft) → Tracks (now (self .entry)) d
+            → Tracks (now (self .exit)) (stepped d (Triple triple))) ⌝ }
         ensures used { λ _. ⌜ used-of (now (self .exit)) ≡ with-triples (used-of (now (self .entry))) 1 ⌝ }
     {
         self.triples += 1;
@@ -69,7 +71,8 @@ impl Builder {
     /// A node of the filter in work.
     pub(crate) fn node(&mut self, node: Node)
         requires { ⌜ now self .nodes < 64 ⌝ }
-        ensures tracks { λ _. ⌜ ((d : Draft) → Tracks (now (self .entry)) d → Tracks (now (self .exit)) (stepped d (NodeStep node))) ⌝ }
+        ensures tracks { λ _. ⌜ ((d : Draft) → Tracks (now (self .entry)) d
+            → Tracks (now (self .exit)) (stepped d (NodeStep node))) ⌝ }
         ensures used { λ _. ⌜ used-of (now (self .exit)) ≡ with-nodes (used-of (now (self .entry))) 1 ⌝ }
     {
         self.nodes += 1;
@@ -78,7 +81,8 @@ impl Builder {
 
     /// The triples in work are the required ones.
     pub(crate) fn end_required(&mut self)
-        ensures tracks { λ _. ⌜ ((d : Draft) → Tracks (now (self .entry)) d → Tracks (now (self .exit)) (stepped d EndRequired)) ⌝ }
+        ensures tracks { λ _. ⌜ ((d : Draft) → Tracks (now (self .entry)) d
+            → Tracks (now (self .exit)) (stepped d EndRequired)) ⌝ }
         ensures used { λ _. ⌜ used-of (now (self .exit)) ≡ used-of (now (self .entry)) ⌝ }
     {
         self.required = self.part;
@@ -89,7 +93,8 @@ impl Builder {
     /// The triples and the filter in work are block number `number`.
     pub(crate) fn end_block(&mut self, number: usize)
         requires { ⌜ number < 4 ⌝ }
-        ensures tracks { λ _. ⌜ ((d : Draft) → number ≡ length (d .blocks) → Tracks (now (self .entry)) d → Tracks (now (self .exit)) (stepped d EndBlock)) ⌝ }
+        ensures tracks { λ _. ⌜ ((d : Draft) → number ≡ length (d .blocks) → Tracks (now (self .entry)) d
+            → Tracks (now (self .exit)) (stepped d EndBlock)) ⌝ }
         ensures used { λ _. ⌜ used-of (now (self .exit)) ≡ used-of (now (self .entry)) ⌝ }
     {
         self.blocks[number] = self.part;
@@ -100,7 +105,8 @@ impl Builder {
 
     /// The required triples, the blocks and the filter in work are an alternative.
     pub(crate) fn end_alternative(&mut self)
-        ensures tracks { λ _. ⌜ ((d : Draft) → Tracks (now (self .entry)) d → Tracks (now (self .exit)) (stepped d EndAlternative)) ⌝ }
+        ensures tracks { λ _. ⌜ ((d : Draft) → Tracks (now (self .entry)) d
+            → Tracks (now (self .exit)) (stepped d EndAlternative)) ⌝ }
         ensures used { λ _. ⌜ used-of (now (self .exit)) ≡ used-of (now (self .entry)) ⌝ }
     {
         let blocks = self.blocks;

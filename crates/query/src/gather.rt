@@ -31,7 +31,8 @@ impl VariableSet {
 
     /// Makes the place a member, if it is a variable.
     fn add(&mut self, place: Place)
-        ensures { λ _. ⌜ ((v : ℕ) → v < 16 → member v (now (self .exit)) ≡ (member v (now (self .entry)) || is-variable v place)) ⌝ }
+        ensures { λ _. ⌜ ((v : ℕ) → v < 16 → member v (now (self .exit))
+            ≡ (member v (now (self .entry)) || is-variable v place)) ⌝ }
     {
         if let Place::Variable(v) = place {
             let v = v as usize;
@@ -43,7 +44,8 @@ impl VariableSet {
 
     /// Makes the variables of the triple members.
     pub(crate) fn add_triple(&mut self, triple: &TriplePattern)
-        ensures { λ _. ⌜ ((ts : List Pattern) → Gathers (now (self .entry)) ts → Gathers (now (self .exit)) (ts ++ now (triple .entry) ∷ [])) ⌝ }
+        ensures { λ _. ⌜ ((ts : List Pattern) → Gathers (now (self .entry)) ts
+            → Gathers (now (self .exit)) (ts ++ now (triple .entry) ∷ [])) ⌝ }
     {
         self.add(triple.subject);
         self.add(triple.property);

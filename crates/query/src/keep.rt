@@ -5,7 +5,8 @@ ghost use lib.ListN.{length};
 ghost use Rattle.query.specs.Format.{bytes-of};
 ghost use Rattle.query.specs.Lawful.{lawful};
 ghost use Rattle.query.specs.Shape.{shape};
-ghost use Rattle.query.specs.Drafts.{fresh, with-triple, with-node, required-ended, block-ended, alternative-ended, draft-of, stepped, Draft, Keeps};
+ghost use Rattle.query.specs.Drafts.{fresh, with-triple, with-node, required-ended, block-ended};
+ghost use Rattle.query.specs.Drafts.{alternative-ended, draft-of, stepped, Draft, Keeps};
 use crate::alternative::Alternative;
 use crate::block::Block;
 use crate::kept::Kept;
@@ -33,14 +34,16 @@ impl Kept {
 
     /// A triple of the part in work.
     fn triple(&mut self, triple: TriplePattern) -> bool
-        ensures { λ r. ⌜ (r ≡ true → draft-of (now (self .exit)) ≡ with-triple (draft-of (now (self .entry))) triple) ⌝ }
+        ensures { λ r. ⌜ (r ≡ true → draft-of (now (self .exit))
+            ≡ with-triple (draft-of (now (self .entry))) triple) ⌝ }
     {
         self.triples.push(triple).is_ok()
     }
 
     /// A node of the filter in work.
     fn node(&mut self, node: Node) -> bool
-        ensures { λ r. ⌜ (r ≡ true → draft-of (now (self .exit)) ≡ with-node (draft-of (now (self .entry))) node) ⌝ }
+        ensures { λ r. ⌜ (r ≡ true → draft-of (now (self .exit))
+            ≡ with-node (draft-of (now (self .entry))) node) ⌝ }
     {
         self.nodes.push(node).is_ok()
     }
@@ -54,7 +57,8 @@ impl Kept {
 
     /// The triples and the filter in work are a block.
     fn end_block(&mut self) -> bool
-        ensures { λ r. ⌜ (r ≡ true → draft-of (now (self .exit)) ≡ block-ended (draft-of (now (self .entry)))) ⌝ }
+        ensures { λ r. ⌜ (r ≡ true → draft-of (now (self .exit))
+            ≡ block-ended (draft-of (now (self .entry)))) ⌝ }
     {
         let triples = mem::replace(&mut self.triples, Vec::new(self.heap));
         let filter = mem::replace(&mut self.nodes, Vec::new(self.heap));
@@ -63,7 +67,8 @@ impl Kept {
 
     /// The required triples, the blocks and the filter in work are an alternative.
     fn end_alternative(&mut self) -> bool
-        ensures { λ r. ⌜ (r ≡ true → draft-of (now (self .exit)) ≡ alternative-ended (draft-of (now (self .entry)))) ⌝ }
+        ensures { λ r. ⌜ (r ≡ true → draft-of (now (self .exit))
+            ≡ alternative-ended (draft-of (now (self .entry)))) ⌝ }
     {
         let required = mem::replace(&mut self.required, Vec::new(self.heap));
         let blocks = mem::replace(&mut self.blocks, Vec::new(self.heap));
@@ -99,7 +104,8 @@ impl Kept {
 
     /// Takes one step; false where there is no memory for it.
     fn take(&mut self, step: Step) -> bool
-        ensures { λ r. ⌜ (r ≡ true → draft-of (now (self .exit)) ≡ stepped (draft-of (now (self .entry))) step) ⌝ }
+        ensures { λ r. ⌜ (r ≡ true → draft-of (now (self .exit))
+            ≡ stepped (draft-of (now (self .entry))) step) ⌝ }
     {
         match step {
             Step::Triple(triple) => self.triple(triple),
@@ -116,7 +122,8 @@ impl Kept {
 
 /// Takes one step if parts are kept; where there is no memory for it, nothing is kept any more.
 pub(crate) fn keep(kept: &mut Option<Kept>, step: Step)
-    ensures { λ _. ⌜ ((d : Draft) → Keeps (now (kept .entry)) d → Keeps (now (kept .exit)) (stepped d step)) ⌝ }
+    ensures { λ _. ⌜ ((d : Draft) → Keeps (now (kept .entry)) d → Keeps (now (kept .exit)) (stepped d step))
+        ⌝ }
 {
     if let Some(parts) = kept {
         if !parts.take(step) {

@@ -71,7 +71,8 @@ pub(crate) fn put_list<T: Coded>(items: &[T], out: &mut [u8], at: usize) -> usiz
     requires few { ⌜ length (now items) ≤ largest ⌝ }
     requires sound { ⌜ All (T·Coded .sound) (now items) ⌝ }
     requires room { ⌜ at + length (counted (T·Coded .code) (now items)) ≤ length (now out) ⌝ }
-    ensures { λ r. ⌜ Put (counted (T·Coded .code) (now (items .entry))) at (now (out .entry)) r (now (out .exit)) ⌝ }
+    ensures { λ r. ⌜ Put (counted (T·Coded .code) (now (items .entry))) at (now (out .entry)) r
+        (now (out .exit)) ⌝ }
 {
     let mut place = put_number(items.len() as u32, out, at);
     // Kept: writing the items left behind this place completes the list.

@@ -35,7 +35,8 @@ impl<'a> Cursor<'a> {
 
     /// A count from `least` to `most`.
     pub(crate) fn count(&mut self, least: u32, most: u32) -> Result<u32, Rejection>
-        ensures answer { λ r. ⌜ Reads (ahead (grammar.count least most) (now (self .entry))) r (now (self .exit)) ⌝ }
+        ensures answer { λ r. ⌜ Reads (ahead (grammar.count least most) (now (self .entry))) r
+            (now (self .exit)) ⌝ }
         ensures same { λ _. ⌜ now (self .exit) .bytes ≡ now (self .entry) .bytes ⌝ }
     {
         let place = self.at;

@@ -25,7 +25,8 @@ impl<'a> Cursor<'a> {
     fn triples(&mut self, builder: &mut Builder, least: u32) -> Result<(), Rejection>
         ensures answer { λ r. ⌜ ((d : Draft) → Tracks (now (builder .entry)) d →
             Takes (ahead (grammar.triples least (now (builder .entry) .triples)) (now (self .entry))) r (now (self .exit))
-            (λ ts. Holds (now (builder .exit)) (with-triples-in d ts) (grammar.with-triples (used-of (now (builder .entry))) (length ts)))) ⌝ }
+            (λ ts. Holds (now (builder .exit)) (with-triples-in d ts)
+            (grammar.with-triples (used-of (now (builder .entry))) (length ts)))) ⌝ }
         ensures same { λ _. ⌜ now (self .exit) .bytes ≡ now (self .entry) .bytes ⌝ }
     {
         let count = self.count(least, builder.triple_room())?;
@@ -41,7 +42,8 @@ impl<'a> Cursor<'a> {
     fn filter(&mut self, builder: &mut Builder) -> Result<(), Rejection>
         ensures answer { λ r. ⌜ ((d : Draft) → Tracks (now (builder .entry)) d →
             Takes (ahead (grammar.filter (now (builder .entry) .nodes)) (now (self .entry))) r (now (self .exit))
-            (λ ns. Holds (now (builder .exit)) (with-nodes-in d ns) (grammar.with-nodes (used-of (now (builder .entry))) (length ns)))) ⌝ }
+            (λ ns. Holds (now (builder .exit)) (with-nodes-in d ns)
+            (grammar.with-nodes (used-of (now (builder .entry))) (length ns)))) ⌝ }
         ensures same { λ _. ⌜ now (self .exit) .bytes ≡ now (self .entry) .bytes ⌝ }
     {
         let count = self.count(0, builder.node_room())?;
@@ -56,10 +58,12 @@ impl<'a> Cursor<'a> {
     /// Block number `number` of an alternative.
     fn block(&mut self, builder: &mut Builder, number: usize) -> Result<(), Rejection>
         requires { ⌜ number < 4 ⌝ }
-        ensures answer { λ r. ⌜ ((done : List Group) (required : List Pattern) (blocks : List Part) → number ≡ length blocks
+        ensures answer { λ r. ⌜ ((done : List Group) (required : List Pattern) (blocks : List Part) → number
+            ≡ length blocks
             → Tracks (now (builder .entry)) (finished done required blocks) →
             Takes (ahead (grammar.block (used-of (now (builder .entry)))) (now (self .entry))) r (now (self .exit))
-            (λ b. Holds (now (builder .exit)) (finished done required (blocks ++ b ∷ [])) (grammar.with-part (used-of (now (builder .entry))) b))) ⌝ }
+            (λ b. Holds (now (builder .exit)) (finished done required (blocks ++ b ∷ []))
+            (grammar.with-part (used-of (now (builder .entry))) b))) ⌝ }
         ensures same { λ _. ⌜ now (self .exit) .bytes ≡ now (self .entry) .bytes ⌝ }
     {
         self.triples(builder, 1)?;
@@ -73,7 +77,8 @@ impl<'a> Cursor<'a> {
         ensures answer { λ r. ⌜ ((done : List Group) (required : List Pattern)
             → Tracks (now (builder .entry)) (finished done required []) →
             Takes (ahead (grammar.blocks (used-of (now (builder .entry)))) (now (self .entry))) r (now (self .exit))
-            (λ bs. Holds (now (builder .exit)) (finished done required bs) (grammar.with-parts (used-of (now (builder .entry))) bs))) ⌝ }
+            (λ bs. Holds (now (builder .exit)) (finished done required bs)
+            (grammar.with-parts (used-of (now (builder .entry))) bs))) ⌝ }
         ensures same { λ _. ⌜ now (self .exit) .bytes ≡ now (self .entry) .bytes ⌝ }
     {
         let count = self.count(0, MOST_BLOCKS)?;
@@ -88,7 +93,8 @@ impl<'a> Cursor<'a> {
     fn alternative(&mut self, builder: &mut Builder) -> Result<(), Rejection>
         ensures answer { λ r. ⌜ ((done : List Group) → Tracks (now (builder .entry)) (finished done [] []) →
             Takes (ahead (grammar.alternative (used-of (now (builder .entry)))) (now (self .entry))) r (now (self .exit))
-            (λ g. Holds (now (builder .exit)) (finished (done ++ g ∷ []) [] []) (grammar.with-group (used-of (now (builder .entry))) g))) ⌝ }
+            (λ g. Holds (now (builder .exit)) (finished (done ++ g ∷ []) [] [])
+            (grammar.with-group (used-of (now (builder .entry))) g))) ⌝ }
         ensures same { λ _. ⌜ now (self .exit) .bytes ≡ now (self .entry) .bytes ⌝ }
     {
         self.triples(builder, 0)?;
@@ -117,7 +123,8 @@ impl<'a> Cursor<'a> {
 
 /// Reads the whole byte string into the builder, or says why it is no query.
 pub(crate) fn scan(bytes: &[u8], builder: &mut Builder) -> Result<(), Rejection>
-    ensures { λ r. ⌜ (Holds (now (builder .entry)) (finished [] [] []) grammar.unused → Scanned (now (bytes .entry)) r (now (builder .exit))) ⌝ }
+    ensures { λ r. ⌜ (Holds (now (builder .entry)) (finished [] [] []) grammar.unused
+        → Scanned (now (bytes .entry)) r (now (builder .exit))) ⌝ }
 {
     let mut cursor = Cursor { bytes, at: 0 };
     cursor.alternatives(builder)?;

@@ -16,7 +16,8 @@ fn clashes(v: usize, required: &VariableSet, first: &VariableSet, second: &Varia
 
 /// Whether two of the blocks share a variable that the required triples lack.
 pub(crate) fn shares(required: &VariableSet, blocks: &[VariableSet]) -> bool
-    ensures { λ r. ⌜ When r (Clash (now (required .entry)) (now (blocks .entry))) (Clash (now (required .entry)) (now (blocks .entry)) → ⊥) ⌝ }
+    ensures { λ r. ⌜ When r (Clash (now (required .entry)) (now (blocks .entry)))
+        (Clash (now (required .entry)) (now (blocks .entry)) → ⊥) ⌝ }
 {
     let mut found = false;
     // Kept while nothing is found: no pair of blocks passed, and no variable passed of the pair in hand, clashes.

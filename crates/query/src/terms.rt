@@ -26,7 +26,8 @@ impl<'a> Cursor<'a> {
 
     /// What follows the kind of node number `number`.
     fn operands(&mut self, number: u32, kind: Kind) -> Result<Node, Rejection>
-        ensures answer { λ r. ⌜ Reads (ahead (grammar.operands number kind) (now (self .entry))) r (now (self .exit)) ⌝ }
+        ensures answer { λ r. ⌜ Reads (ahead (grammar.operands number kind) (now (self .entry))) r
+            (now (self .exit)) ⌝ }
         ensures same { λ _. ⌜ now (self .exit) .bytes ≡ now (self .entry) .bytes ⌝ }
     {
         match kind {
@@ -41,7 +42,8 @@ impl<'a> Cursor<'a> {
 
     /// Node number `number` of a filter.
     pub(crate) fn node(&mut self, number: u32) -> Result<Node, Rejection>
-        ensures answer { λ r. ⌜ Reads (ahead (grammar.node number) (now (self .entry))) r (now (self .exit)) ⌝ }
+        ensures answer { λ r. ⌜ Reads (ahead (grammar.node number) (now (self .entry))) r (now (self .exit))
+            ⌝ }
         ensures same { λ _. ⌜ now (self .exit) .bytes ≡ now (self .entry) .bytes ⌝ }
     {
         let kind = self.kind()?;

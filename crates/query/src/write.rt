@@ -2,7 +2,8 @@
 ghost use mathlib.Core.Bool.{true};
 ghost use mathlib.Core.Path.{_≡_};
 ghost use Rattle.query.specs.Codes.{lawful-place};
-ghost use Rattle.query.specs.Format.{triple-bytes, node-bytes, operand-bytes, part-bytes, group-bytes, bytes-of};
+ghost use Rattle.query.specs.Format.{triple-bytes, node-bytes, operand-bytes, part-bytes, group-bytes};
+ghost use Rattle.query.specs.Format.{bytes-of};
 ghost use Rattle.query.specs.Lawful.{lawful-triple, lawful-part, lawful-group};
 ghost use Rattle.query.specs.Parts.{part-of, group-of};
 ghost use Rattle.query.specs.Shape.{shape};
@@ -88,7 +89,8 @@ impl Query {
     /// Writes the query's bytes at the front of the buffer and answers their length; what stands behind
     /// them stays. A buffer that is shorter is refused by 34, with no place, and stays as it was.
     pub fn write(&self, out: &mut [u8]) -> Result<usize, Rejection>
-        ensures { λ r. ⌜ Written (bytes-of (shape (now (self .entry)))) (now (out .entry)) r (now (out .exit)) ⌝ }
+        ensures { λ r. ⌜ Written (bytes-of (shape (now (self .entry)))) (now (out .entry)) r
+            (now (out .exit)) ⌝ }
     {
         if out.len() < self.size {
             return Err(Rejection::unplaced(Refusal::BufferShort));

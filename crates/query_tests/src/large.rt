@@ -63,7 +63,15 @@ fn the_longest_query_has_1113_bytes_and_is_written_back(rt: LibcRuntime) -> Resu
         return Err(Fail::new("the longest query was not read"));
     };
     let counts = query.counts();
-    check_eq((counts.alternatives, counts.blocks, counts.triples, counts.nodes), (8, 32, 64, 64))?;
+    check_eq(
+        (
+            counts.alternatives,
+            counts.blocks,
+            counts.triples,
+            counts.nodes,
+        ),
+        (8, 32, 64, 64),
+    )?;
     let mut out = [7u8; 1200];
     let Ok(length) = query.write(&mut out) else {
         return Err(Fail::new("the longest query was not written"));

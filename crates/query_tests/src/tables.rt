@@ -4,8 +4,8 @@ use crate::damaged::DAMAGED;
 use crate::damaged::GOOD;
 use query::read;
 use std::test::Fail;
-use std::test::check_eq;
 use std::test::Note;
+use std::test::check_eq;
 
 /// The number of the refusal and its place, 0 and 0 for a query.
 pub(crate) fn outcome(bytes: &[u8]) -> (u32, usize) {

@@ -10,7 +10,10 @@ use std::test::*;
 fn gives_back(query: &Query, bytes: &[u8]) -> bool {
     let mut out = [0xEEu8; 64];
     match query.write(&mut out) {
-        Ok(length) => length == bytes.len() && length <= 64 && &out[0..length] == bytes && ends_clean(&out, length),
+        Ok(length) => length == bytes.len()
+            && length <= 64
+            && &out[0..length] == bytes
+            && ends_clean(&out, length),
         Err(_) => false,
     }
 }

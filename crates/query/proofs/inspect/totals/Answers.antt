@@ -31,6 +31,16 @@ returns c =
     let xs = c .args .blocks .now in
     let i = c .loop-block .block-index in
     record {
-      triples = omega (arith, c .loop-block .inv .0, total-end (λ b. length (part-of b .triples)) xs i (c .loop-block-test .left));
-      nodes = omega (arith, c .loop-block .inv .1, total-end (λ b. length (part-of b .filter)) xs i (c .loop-block-test .left));
+      triples = omega (
+        arith,
+        c .loop-block .inv .0,
+        total-end (λ b. length (part-of b .triples)) xs i
+            (c .loop-block-test .left),
+      );
+      nodes = omega (
+        arith,
+        c .loop-block .inv .1,
+        total-end (λ b. length (part-of b .filter)) xs i
+            (c .loop-block-test .left),
+      );
     }

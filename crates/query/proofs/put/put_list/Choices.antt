@@ -5,4 +5,5 @@ use Rattle.query.proofs.put.put_list.Given as given
 
 abbrev pub Inv-loop-item : given.InvT-loop-item
 Inv-loop-item g l =
-    Completes (g .T·Coded .code) (l .items) (drop (l .item-index) (l .items)) (l .entry .out) (l .entry .place) (l .out) (l .place)
+    Completes (g .T·Coded .code) (l .items) (drop (l .item-index) (l .items)) (l .entry .out)
+    (l .entry .place) (l .out) (l .place)

@@ -14,7 +14,8 @@ kept-is-read : (c : In-Some) → verdict (c .args .bytes .now) ≡ accepted (dra
 kept-is-read c =
     let (q, (e, tracks)) = c .in-Continue-scan .ensures tt
     (record { tracks = c .new-builder .ensures .tracks; used = c .new-builder .ensures .used }) in
-    let held = subst (λ k. Keeps k (finished q _ _)) (sym (c .into-kept .ensures) ∙ c .in-Some .is) (tracks .kept) in
+    let held = subst (λ k. Keeps k (finished q _ _)) (sym (c .into-kept .ensures) ∙ c .in-Some .is)
+    (tracks .kept) in
     e ∙ ap accepted (sym (ap (λ d. d .done) held))
 
 pub finish-requires : need.finish-requires

@@ -16,5 +16,6 @@ returns-after-pairs c =
     let ordered = k .ordered in
     let inside = k .inside in
     let passed : k .first < c .pairs .first = omega arith in
-    both-ways _ (c .pairs .inv .1 (k .first) passed (k .second) (k .ordered) (k .inside) (k .variable) (k .known) required)
+    both-ways _ (c .pairs .inv .1 (k .first) passed (k .second) (k .ordered) (k .inside) (k .variable)
+    (k .known) required)
     (k .clashes required))

@@ -9,9 +9,11 @@ Inv-pairs l = (l .found ≡ false) × No-pair (l .required) (l .blocks) (l .firs
 
 abbrev pub Inv-loop-second : given.InvT-loop-second
 Inv-loop-second l =
-    (l .found ≡ false) × No-pair (l .required) (l .blocks) (l .first) × No-second (l .required) (l .blocks) (l .first) (l .second)
+    (l .found ≡ false) × No-pair (l .required) (l .blocks) (l .first)
+    × No-second (l .required) (l .blocks) (l .first) (l .second)
 
 abbrev pub Inv-loop-v : given.InvT-loop-v
 Inv-loop-v l =
-    (l .found ≡ false) × No-pair (l .required) (l .blocks) (l .first) × No-second (l .required) (l .blocks) (l .first) (l .second)
+    (l .found ≡ false) × No-pair (l .required) (l .blocks) (l .first)
+    × No-second (l .required) (l .blocks) (l .first) (l .second)
     × No-variable (l .required) (l .blocks) (l .first) (l .second) (l .v)

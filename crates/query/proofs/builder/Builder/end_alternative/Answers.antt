@@ -19,14 +19,16 @@ returns c = record {
       let either : c .if-self .self ≡ (b .shared || found) = search needs in
       let room : b .count - 0 ≤ length (b .blocks) = omega (arith, b .inside, b .full) in
       let is : found ≡ shares g =
-      shares-front (b .required) (b .blocks) (b .count - 0) g found (h .required) (omega (arith, h .counted)) room (h .blocks)
+      shares-front (b .required) (b .blocks) (b .count - 0) g found (h .required) (omega (arith, h .counted))
+      room (h .blocks)
       (c .shares-found .ensures) in
       record {
         part = h .part;
         required = c .empty-self .ensures;
         counted = refl;
         blocks = λ k s p l. absurd (omega arith);
-        shared = either ∙ ap (λ x. x || found) (h .shared) ∙ ap (λ x. some shares (d .done) || x) is ∙ sym (some-push shares (d .done) g);
+        shared = either ∙ ap (λ x. x || found) (h .shared) ∙ ap (λ x. some shares (d .done) || x) is
+            ∙ sym (some-push shares (d .done) g);
         kept = c .keep .ensures d (h .kept);
       };
   used = refl;

@@ -12,8 +12,13 @@ returns c = record {
       record {
         part = c .empty-self .ensures;
         required = h .required;
-        counted = omega (arith, last, length-push (d .blocks) (record { triples = d .triples; filter = d .nodes }));
-        blocks = blocks-push (b .blocks) (d .blocks) (c .args .number) (b .part) (record { triples = d .triples; filter = d .nodes })
+        counted = omega (
+          arith,
+          last,
+          length-push (d .blocks) (record { triples = d .triples; filter = d .nodes }),
+        );
+        blocks = blocks-push (b .blocks) (d .blocks) (c .args .number) (b .part)
+            (record { triples = d .triples; filter = d .nodes })
             last (omega (arith, b .full, c .pre)) (h .part) (h .blocks);
         shared = h .shared;
         kept = c .keep .ensures d (h .kept);

@@ -12,6 +12,8 @@ use Rattle.query.proofs.cursor.Cursor.blocks.Given as given
 abbrev pub Inv-loop-number : given.InvT-loop-number
 Inv-loop-number l =
     (l .self .bytes ≡ l .entry .self .bytes)
-    × ((done : List Group) (required : List TriplePattern) → Tracks (l .entry .builder) (finished done required [])
-    → Sofar block with-part (with-parts (used-of (l .entry .builder))) (l .count) (l .number) (l .entry .self) (l .self)
+    × ((done : List Group) (required : List TriplePattern)
+    → Tracks (l .entry .builder) (finished done required [])
+    → Sofar block with-part (with-parts (used-of (l .entry .builder))) (l .count) (l .number)
+    (l .entry .self) (l .self)
     (λ bs. Holds (l .builder) (finished done required bs) (with-parts (used-of (l .entry .builder)) bs)))

@@ -12,7 +12,8 @@ add-self c =
     let at = c .args .self .now .at in
     let n = c .in-Ok .number in
     let ends : at + n .length ≤ length bytes =
-    number-within bytes at (n .value) (n .length) (decoded-answer (decode (drop at bytes)) n (c .in-Ok .ensures tt)) in
+    number-within bytes at (n .value) (n .length)
+    (decoded-answer (decode (drop at bytes)) n (c .in-Ok .ensures tt)) in
     omega arith
 
 pub returns-in-Ok : need.returns-in-Ok
@@ -21,6 +22,7 @@ returns-in-Ok c =
     let at = c .args .self .now .at in
     let n = c .in-Ok .number in
     record {
-      answer = number-took bytes at (n .value) (n .length) (decoded-answer (decode (drop at bytes)) n (c .in-Ok .ensures tt));
+      answer = number-took bytes at (n .value) (n .length)
+          (decoded-answer (decode (drop at bytes)) n (c .in-Ok .ensures tt));
       same = refl;
     }

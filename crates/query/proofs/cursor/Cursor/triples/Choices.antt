@@ -16,4 +16,5 @@ Inv-loop-number l =
     × (used-of (l .builder) ≡ with-triples (used-of (l .entry .builder)) (l .-number))
     × ((d : Draft) → Tracks (l .entry .builder) d
     → Sofar (λ (_ : ℕ). triple) (λ i _. i + 1) length (l .count) (l .-number) (l .entry .self) (l .self)
-    (λ ts. Holds (l .builder) (with-triples-in d ts) (with-triples (used-of (l .entry .builder)) (length ts))))
+    (λ ts. Holds (l .builder) (with-triples-in d ts)
+    (with-triples (used-of (l .entry .builder)) (length ts))))

@@ -9,8 +9,10 @@ returns c h =
     let k = c .args .self .now in
     let same : part-of (record { triples = c .replace-triples .result; filter = c .replace-filter .result })
     ≡ record { triples = vec-items (k .triples); filter = vec-items (k .nodes) } =
-    ap (λ v. record { triples = vec-items v; filter = vec-items (c .replace-filter .result) }) (c .replace-triples .ensures .value)
-    ∙ ap (λ v. record { triples = vec-items (k .triples); filter = vec-items v }) (c .replace-filter .ensures .value) in
+    ap (λ v. record { triples = vec-items v; filter = vec-items (c .replace-filter .result) })
+    (c .replace-triples .ensures .value)
+    ∙ ap (λ v. record { triples = vec-items (k .triples); filter = vec-items v })
+    (c .replace-filter .ensures .value) in
     same-draft refl refl
     (map-pushed part-of _ _ _ _ _ _ (c .push .ensures .items) (c .is-ok .ensures .value) h same)
     (ap vec-items (c .replace-triples .ensures .after) ∙ c .new .ensures .items)

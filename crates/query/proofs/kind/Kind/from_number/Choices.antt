@@ -8,4 +8,5 @@ use Rattle.query.proofs.kind.Kind.from_number.Given as given
 
 abbrev pub Inv-loop-kind : given.InvT-loop-kind
 Inv-loop-kind l =
-    kind-among (drop (l .kind-index) (Equal ∷ Less ∷ Bound ∷ Not ∷ And ∷ Or ∷ [])) (l .number) ≡ kind-from (l .number)
+    kind-among (drop (l .kind-index) (Equal ∷ Less ∷ Bound ∷ Not ∷ And ∷ Or ∷ [])) (l .number)
+    ≡ kind-from (l .number)

@@ -25,29 +25,50 @@ room c =
     let xs = c .as-slice-alternatives .result .now in
     let i = c .loop-alternative .alternative-index in
     let x = c .alternative-item .result in
-    let s = sums-lawful xs (subst (λ l. lawful (map group-of l) ≡ true) (sym (c .as-slice-alternatives .ensures .value)) (c .args .self .now .keeps)) in
+    let s = sums-lawful xs
+    (subst (λ l. lawful (map group-of l) ≡ true) (sym (c .as-slice-alternatives .ensures .value))
+    (c .args .self .now .keeps)) in
     let l = c .loop-alternative-test .taken in
     let is = c .alternative-item .is in
     let inv = c .loop-alternative .inv in
     record {
-      blocks = omega (arith, s .blocks, count-next (λ a. length (group-of a .blocks)) xs i x (c .loop-alternative .blocks) l is (inv .0));
-      triples = omega (arith, s .triples, count-next (λ a. triples-in (group-of a)) xs i x (c .loop-alternative .triples) l is (inv .1));
-      nodes = omega (arith, s .nodes, count-next (λ a. nodes-in (group-of a)) xs i x (c .loop-alternative .nodes) l is (inv .2));
+      blocks = omega (
+        arith,
+        s .blocks,
+        count-next (λ a. length (group-of a .blocks)) xs i x
+            (c .loop-alternative .blocks) l is (inv .0),
+      );
+      triples = omega (
+        arith,
+        s .triples,
+        count-next (λ a. triples-in (group-of a)) xs i x
+            (c .loop-alternative .triples) l is (inv .1),
+      );
+      nodes = omega (
+        arith,
+        s .nodes,
+        count-next (λ a. nodes-in (group-of a)) xs i x
+            (c .loop-alternative .nodes) l is (inv .2),
+      );
     }
 
 -- what is added for the next alternative is what it holds
 record Parts (c : After-len-blocks) : Type 0 where
   blocks : c .len-blocks .result ≡ length (group-of (c .alternative-item .result) .blocks)
-  triples : c .len-required .result + c .totals-inner .result .0 ≡ triples-in (group-of (c .alternative-item .result))
-  nodes : c .totals-inner .result .1 + c .len-filter .result ≡ nodes-in (group-of (c .alternative-item .result))
+  triples : c .len-required .result + c .totals-inner .result .0
+      ≡ triples-in (group-of (c .alternative-item .result))
+  nodes : c .totals-inner .result .1 + c .len-filter .result
+      ≡ nodes-in (group-of (c .alternative-item .result))
 
 parts : (c : After-len-blocks) → Parts c
 parts c =
     let x = c .alternative-item .result in
     let bs = vec-items (x .blocks) in
-    let t = c .totals-inner .ensures .triples ∙ ap (total (λ b. length (part-of b .triples))) (c .as-slice .ensures .value)
+    let t = c .totals-inner .ensures .triples
+    ∙ ap (total (λ b. length (part-of b .triples))) (c .as-slice .ensures .value)
     ∙ sym (total-map part-of (λ p. length (p .triples)) bs) in
-    let n = c .totals-inner .ensures .nodes ∙ ap (total (λ b. length (part-of b .filter))) (c .as-slice .ensures .value)
+    let n = c .totals-inner .ensures .nodes
+    ∙ ap (total (λ b. length (part-of b .filter))) (c .as-slice .ensures .value)
     ∙ sym (total-map part-of (λ p. length (p .filter)) bs) in
     record {
       blocks = omega (arith, c .len-blocks .ensures, x .blocks .ok .0, length-map bs part-of);
@@ -61,15 +82,33 @@ totals-inner-requires c κs =
     let bs = vec-items (c .alternative-item .result .blocks) in
     let is = c .as-slice .ensures .value in
     record {
-      triples = omega (arith, r .triples, ap (total (λ b. length (part-of b .triples))) is, total-map part-of (λ p. length (p .triples)) bs);
-      nodes = omega (arith, r .nodes, ap (total (λ b. length (part-of b .filter))) is, total-map part-of (λ p. length (p .filter)) bs);
+      triples = omega (
+        arith,
+        r .triples,
+        ap (total (λ b. length (part-of b .triples))) is,
+        total-map part-of (λ p. length (p .triples)) bs,
+      );
+      nodes = omega (
+        arith,
+        r .nodes,
+        ap (total (λ b. length (part-of b .filter))) is,
+        total-map part-of (λ p. length (p .filter)) bs,
+      );
     }
 
 pub add-blocks : need.add-blocks
-add-blocks c = omega (arith, room (need.at·add-blocks c .After-as-slice) .blocks, parts (need.at·add-blocks c .After-len-blocks) .blocks)
+add-blocks c = omega (
+  arith,
+  room (need.at·add-blocks c .After-as-slice) .blocks,
+  parts (need.at·add-blocks c .After-len-blocks) .blocks,
+)
 
 pub add-triples : need.add-triples
-add-triples c = omega (arith, room (need.at·add-triples c .After-as-slice) .triples, parts (need.at·add-triples c .After-len-blocks) .triples)
+add-triples c = omega (
+  arith,
+  room (need.at·add-triples c .After-as-slice) .triples,
+  parts (need.at·add-triples c .After-len-blocks) .triples,
+)
 
 pub add-triples-in-loop-alternative : need.add-triples-in-loop-alternative
 add-triples-in-loop-alternative c =
@@ -80,7 +119,11 @@ add-triples-in-loop-alternative c =
     )
 
 pub add-nodes : need.add-nodes
-add-nodes c = omega (arith, room (need.at·add-nodes c .After-as-slice) .nodes, parts (need.at·add-nodes c .After-len-blocks) .nodes)
+add-nodes c = omega (
+  arith,
+  room (need.at·add-nodes c .After-as-slice) .nodes,
+  parts (need.at·add-nodes c .After-len-blocks) .nodes,
+)
 
 pub add-nodes-in-loop-alternative : need.add-nodes-in-loop-alternative
 add-nodes-in-loop-alternative c =

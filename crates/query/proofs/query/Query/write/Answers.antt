@@ -9,7 +9,8 @@ use Rattle.std.proofs.shelf.Tests.{and-parts}
 use Rattle.std.specs.Of.Vec.{vec-items}
 use Rattle.query.specs.Codes.{within}
 use Rattle.query.specs.Format.{group-bytes, counted, bytes-of}
-use Rattle.query.specs.Lawful.{every, lawful-group, limited, some, shares, total, triples-in, nodes-in, most-alternatives, most-in-all}
+use Rattle.query.specs.Lawful.{every, lawful-group, limited, some, shares, total, triples-in, nodes-in}
+use Rattle.query.specs.Lawful.{most-alternatives, most-in-all}
 use Rattle.query.specs.Parts.{group-of}
 use Rattle.query.specs.Writes.{Put}
 use Rattle.query.proofs.Sound.{Writable, mapped-writable, counted-map}
@@ -23,11 +24,14 @@ put-list-requires c κs =
     let is = sym (c .as-slice .ensures .value) in
     let kept = and-parts (limited gs) (not (some shares gs)) (q .keeps) .0 in
     let x = and-parts (within 1 most-alternatives (length gs))
-    (every lawful-group gs && (leb (total triples-in gs) most-in-all && leb (total nodes-in gs) most-in-all)) kept in
-    let y = and-parts (every lawful-group gs) (leb (total triples-in gs) most-in-all && leb (total nodes-in gs) most-in-all) (x .1) in
+    (every lawful-group gs && (leb (total triples-in gs) most-in-all && leb (total nodes-in gs) most-in-all))
+    kept in
+    let y = and-parts (every lawful-group gs) (leb (total triples-in gs) most-in-all
+    && leb (total nodes-in gs) most-in-all) (x .1) in
     let w = subst (Writable (λ a. lawful-group (group-of a))) is
     (mapped-writable group-of lawful-group 1 most-alternatives xs (omega arith) (x .0) (y .0)) in
-    let same = ap (counted (λ a. group-bytes (group-of a))) (c .as-slice .ensures .value) ∙ counted-map group-of group-bytes xs in
+    let same = ap (counted (λ a. group-bytes (group-of a))) (c .as-slice .ensures .value)
+    ∙ counted-map group-of group-bytes xs in
     record {
       few = w .0;
       sound = w .1;
@@ -39,5 +43,6 @@ returns c =
     let q = c .args .self .now in
     let same = ap (counted (λ a. group-bytes (group-of a))) (c .as-slice .ensures .value)
     ∙ counted-map group-of group-bytes (vec-items (q .alternatives)) in
-    let put = subst (λ l. Put l 0 (c .args .out .now) (c .put-list .result) (c .put-list .last .out)) same (c .put-list .ensures) in
+    let put = subst (λ l. Put l 0 (c .args .out .now) (c .put-list .result) (c .put-list .last .out)) same
+    (c .put-list .ensures) in
     (omega (arith, q .measured), omega (arith, put .0), put .1)

@@ -11,6 +11,8 @@ returns c ts h v l =
     let p = is-variable v (t .property) in
     let o = is-variable v (t .object) in
     c .add-3 .ensures v l
-    ∙ ap (λ b. b || o) (c .add-2 .ensures v l ∙ ap (λ b. b || p) (c .add .ensures v l ∙ ap (λ b. b || s) (h v l)))
+    ∙ ap (λ b. b || o) (c .add-2 .ensures v l
+    ∙ ap (λ b. b || p) (c .add .ensures v l ∙ ap (λ b. b || s) (h v l)))
     ∙ or-assoc (mentions v ts || s) p o ∙ or-assoc (mentions v ts) s (p || o)
-    ∙ sym (some-push (λ u. is-variable v (u .subject) || (is-variable v (u .property) || is-variable v (u .object))) ts t)
+    ∙ sym (some-push (λ u. is-variable v (u .subject)
+    || (is-variable v (u .property) || is-variable v (u .object))) ts t)

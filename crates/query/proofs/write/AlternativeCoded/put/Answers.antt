@@ -9,7 +9,8 @@ use Rattle.std.specs.Of.Vec.{vec-items}
 use Rattle.query.specs.declared.alternative.Alternative.{Alternative}
 use Rattle.query.specs.Codes.{within}
 use Rattle.query.specs.Format.{triple-bytes, node-bytes, part-bytes, counted}
-use Rattle.query.specs.Lawful.{every, lawful-triple, lawful-triples, lawful-part, lawful-filter, lawful-group, most-blocks}
+use Rattle.query.specs.Lawful.{every, lawful-triple, lawful-triples, lawful-part, lawful-filter, lawful-group}
+use Rattle.query.specs.Lawful.{most-blocks}
 use Rattle.query.specs.Parts.{part-of, group-of}
 use Rattle.query.specs.Writes.{Put, places-lawful}
 use Rattle.query.proofs.Sound.{Writable, triples-writable, filter-writable, mapped-writable, counted-map}
@@ -27,34 +28,41 @@ limits a h =
     let bs = map part-of (vec-items (a .blocks)) in
     let x = and-parts (lawful-triples 0 (vec-items (a .required)))
     (within 0 most-blocks (length bs) && (every lawful-part bs && lawful-filter (vec-items (a .filter)))) h in
-    let y = and-parts (within 0 most-blocks (length bs)) (every lawful-part bs && lawful-filter (vec-items (a .filter))) (x .1) in
+    let y = and-parts (within 0 most-blocks (length bs)) (every lawful-part bs
+    && lawful-filter (vec-items (a .filter))) (x .1) in
     let z = and-parts (every lawful-part bs) (lawful-filter (vec-items (a .filter))) (y .1) in
     (x .0, y .0, z .0, z .1)
 
 -- the required triples were written
 wrote-required : (c : After-put-list-blocks)
-    → Put (counted triple-bytes (vec-items (c .args .self .now .required))) (c .args .at) (c .args .out .now) (c .put-list-blocks .result)
+    → Put (counted triple-bytes (vec-items (c .args .self .now .required))) (c .args .at) (c .args .out .now)
+    (c .put-list-blocks .result)
     (c .put-list-blocks .last .out)
 wrote-required c =
-    subst (λ l. Put (counted triple-bytes l) (c .args .at) (c .args .out .now) (c .put-list-blocks .result) (c .put-list-blocks .last .out))
+    subst (λ l. Put (counted triple-bytes l) (c .args .at) (c .args .out .now) (c .put-list-blocks .result)
+    (c .put-list-blocks .last .out))
     (c .as-slice .ensures .value) (c .put-list-blocks .ensures)
 
 -- there is room for the blocks and the filter behind them
 room-behind : (c : After-put-list-blocks)
     → c .put-list-blocks .result
-    + length (counted part-bytes (map part-of (vec-items (c .args .self .now .blocks))) ++ counted node-bytes (vec-items (c .args .self .now .filter)))
+    + length (counted part-bytes (map part-of (vec-items (c .args .self .now .blocks))) ++ counted node-bytes
+    (vec-items (c .args .self .now .filter)))
     ≤ length (c .put-list-blocks .last .out)
 room-behind c =
     room-second (counted triple-bytes (vec-items (c .args .self .now .required)))
-    (counted part-bytes (map part-of (vec-items (c .args .self .now .blocks))) ++ counted node-bytes (vec-items (c .args .self .now .filter)))
+    (counted part-bytes (map part-of (vec-items (c .args .self .now .blocks))) ++ counted node-bytes
+    (vec-items (c .args .self .now .filter)))
     (c .args .at) _ (c .args .out .now) _ (c .pre .room) (wrote-required c)
 
 -- the blocks were written
 wrote-blocks : (c : After-put-list-filter)
-    → Put (counted part-bytes (map part-of (vec-items (c .args .self .now .blocks)))) (c .put-list-blocks .result) (c .put-list-blocks .last .out)
+    → Put (counted part-bytes (map part-of (vec-items (c .args .self .now .blocks))))
+    (c .put-list-blocks .result) (c .put-list-blocks .last .out)
     (c .put-list-filter .result) (c .put-list-filter .last .out)
 wrote-blocks c =
-    subst (λ l. Put l (c .put-list-blocks .result) (c .put-list-blocks .last .out) (c .put-list-filter .result) (c .put-list-filter .last .out))
+    subst (λ l. Put l (c .put-list-blocks .result) (c .put-list-blocks .last .out)
+    (c .put-list-filter .result) (c .put-list-filter .last .out))
     (ap (counted (λ b. part-bytes (part-of b))) (c .as-slice-2 .ensures .value)
     ∙ counted-map part-of part-bytes (vec-items (c .args .self .now .blocks)))
     (c .put-list-filter .ensures)
@@ -70,7 +78,8 @@ put-list-blocks-requires c κs =
       sound = w .1;
       room = subst (λ l. c .args .at + length (counted triple-bytes l) ≤ length (c .args .out .now)) is
           (room-first (counted triple-bytes ts)
-          (counted part-bytes (map part-of (vec-items (a .blocks))) ++ counted node-bytes (vec-items (a .filter)))
+          (counted part-bytes (map part-of (vec-items (a .blocks))) ++ counted node-bytes
+          (vec-items (a .filter)))
           (c .args .at) (c .args .out .now) (c .pre .room));
     }
 
@@ -80,14 +89,17 @@ put-list-filter-requires c κs =
     let bs = vec-items (a .blocks) in
     let l = limits a (c .pre .sound) in
     let is = sym (c .as-slice-2 .ensures .value) in
-    let w = subst (Writable (λ b. lawful-part (part-of b))) is (mapped-writable part-of lawful-part 0 most-blocks bs (omega arith) (l .1) (l .2)) in
-    let fits = room-first (counted part-bytes (map part-of bs)) (counted node-bytes (vec-items (a .filter))) _ _
+    let w = subst (Writable (λ b. lawful-part (part-of b))) is
+    (mapped-writable part-of lawful-part 0 most-blocks bs (omega arith) (l .1) (l .2)) in
+    let fits = room-first (counted part-bytes (map part-of bs)) (counted node-bytes (vec-items (a .filter)))
+    _ _
     (room-behind (need.at·put-list-filter-requires c .After-put-list-blocks)) in
     record {
       few = w .0;
       sound = w .1;
       room = subst (λ k. c .put-list-blocks .result + length k ≤ length (c .put-list-blocks .last .out))
-          (sym (ap (counted (λ b. part-bytes (part-of b))) (c .as-slice-2 .ensures .value) ∙ counted-map part-of part-bytes bs)) fits;
+          (sym (ap (counted (λ b. part-bytes (part-of b))) (c .as-slice-2 .ensures .value)
+          ∙ counted-map part-of part-bytes bs)) fits;
     }
 
 pub put-list-requires : need.put-list-requires
@@ -99,9 +111,12 @@ put-list-requires c κs =
     record {
       few = w .0;
       sound = w .1;
-      room = subst (λ l. c .put-list-filter .result + length (counted node-bytes l) ≤ length (c .put-list-filter .last .out)) is
-          (room-second (counted part-bytes (map part-of (vec-items (a .blocks)))) (counted node-bytes ns) _ _ _ _
-          (room-behind (need.at·put-list-requires c .After-put-list-blocks)) (wrote-blocks (need.at·put-list-requires c .After-put-list-filter)));
+      room = subst (λ l. c .put-list-filter .result + length (counted node-bytes l)
+          ≤ length (c .put-list-filter .last .out)) is
+          (room-second (counted part-bytes (map part-of (vec-items (a .blocks)))) (counted node-bytes ns) _ _
+          _ _
+          (room-behind (need.at·put-list-requires c .After-put-list-blocks))
+          (wrote-blocks (need.at·put-list-requires c .After-put-list-filter)));
     }
 
 pub returns : need.returns
@@ -109,8 +124,11 @@ returns c =
     let a = c .args .self .now in
     let bs = counted part-bytes (map part-of (vec-items (a .blocks))) in
     let ns = counted node-bytes (vec-items (a .filter)) in
-    put-append (counted triple-bytes (vec-items (a .required))) (bs ++ ns) (c .args .at) _ _ (c .args .out .now) _ _ (c .pre .room)
+    put-append (counted triple-bytes (vec-items (a .required))) (bs ++ ns) (c .args .at) _ _
+    (c .args .out .now) _ _ (c .pre .room)
     (wrote-required (need.at·returns c .After-put-list-blocks))
-    (put-append bs ns _ _ _ _ _ _ (room-behind (need.at·returns c .After-put-list-blocks)) (wrote-blocks (need.at·returns c .After-put-list-filter))
-    (subst (λ l. Put (counted node-bytes l) (c .put-list-filter .result) (c .put-list-filter .last .out) (c .put-list .result) (c .put-list .last .out))
+    (put-append bs ns _ _ _ _ _ _ (room-behind (need.at·returns c .After-put-list-blocks))
+    (wrote-blocks (need.at·returns c .After-put-list-filter))
+    (subst (λ l. Put (counted node-bytes l) (c .put-list-filter .result) (c .put-list-filter .last .out)
+    (c .put-list .result) (c .put-list .last .out))
     (c .as-slice-3 .ensures .value) (c .put-list .ensures)))

@@ -19,23 +19,28 @@ put-number-place-requires c κs =
     record {
       room = subst (λ k. c .args .at + length (encode k) ≤ length (c .args .out .now))
           (sym (first-number (need.at·put-number-place-requires c .After-number)))
-          (room-first (encode (number-of (kind-of n))) (operand-bytes n) (c .args .at) (c .args .out .now) (c .pre .room));
+          (room-first (encode (number-of (kind-of n))) (operand-bytes n) (c .args .at) (c .args .out .now)
+          (c .pre .room));
     }
 
 pub put-operands-requires : need.put-operands-requires
 put-operands-requires c κs =
     let n = c .args .self .now in
-    let first = subst (λ k. Put (encode k) (c .args .at) (c .args .out .now) (c .put-number-place .result) (c .put-number-place .last .out))
+    let first = subst (λ k. Put (encode k) (c .args .at) (c .args .out .now) (c .put-number-place .result)
+    (c .put-number-place .last .out))
     (first-number (need.at·put-operands-requires c .After-number)) (c .put-number-place .ensures) in
     record {
       sound = c .pre .sound;
-      room = room-second (encode (number-of (kind-of n))) (operand-bytes n) (c .args .at) _ (c .args .out .now) _ (c .pre .room) first;
+      room = room-second (encode (number-of (kind-of n))) (operand-bytes n) (c .args .at) _
+          (c .args .out .now) _ (c .pre .room) first;
     }
 
 pub returns : need.returns
 returns c =
     let n = c .args .self .now in
-    let first = subst (λ k. Put (encode k) (c .args .at) (c .args .out .now) (c .put-number-place .result) (c .put-number-place .last .out))
+    let first = subst (λ k. Put (encode k) (c .args .at) (c .args .out .now) (c .put-number-place .result)
+    (c .put-number-place .last .out))
     (first-number (need.at·returns c .After-number)) (c .put-number-place .ensures) in
-    put-append (encode (number-of (kind-of n))) (operand-bytes n) (c .args .at) _ _ (c .args .out .now) _ _ (c .pre .room) first
+    put-append (encode (number-of (kind-of n))) (operand-bytes n) (c .args .at) _ _ (c .args .out .now) _ _
+    (c .pre .room) first
     (c .put-operands .ensures)
