@@ -18,6 +18,10 @@ use Rattle.query.specs.declared.kind.Kind.the-variants.{Equal, Less, Bound, No
 abbrev pub most-variable : ℕ
 most-variable = 15
 
+-- how many variables there are
+abbrev pub variables : ℕ
+variables = 16
+
 -- the highest number of a term in a query
 abbrev pub most-term : ℕ
 most-term = 1000000

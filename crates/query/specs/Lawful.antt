@@ -12,7 +12,7 @@ use Rattle.query.specs.declared.node.Node.{Node}
 use Rattle.query.specs.declared.node.Node.the-variants.{Equal, Less, Bound, Not, And, Or}
 use Rattle.query.specs.declared.pattern.TriplePattern.{TriplePattern}
 use Rattle.query.specs.Parts.{Part, Group}
-use Rattle.query.specs.Codes.{within, lawful-place, most-variable}
+use Rattle.query.specs.Codes.{within, lawful-place, most-variable, variables}
 
 -- the most alternatives of a query
 abbrev pub most-alternatives : ℕ
@@ -98,7 +98,7 @@ shared-below (suc v) g =
 
 -- some variable is in the triples of two blocks and not in the required triples
 abbrev pub shares : Group → Bool
-shares g = shared-below (suc most-variable) g
+shares g = shared-below variables g
 
 -- how many triples the alternative has, with those of its blocks
 abbrev pub triples-in : Group → ℕ

@@ -6,6 +6,7 @@ use Prim.Native.Nat.{ℕ, _<_}
 use lib.ListN.{getD, length}
 use Rattle.query.specs.declared.pattern.TriplePattern.{TriplePattern}
 use Rattle.query.specs.declared.variables.VariableSet.{VariableSet}
+use Rattle.query.specs.Codes.{variables}
 use Rattle.query.specs.Lawful.{mentions}
 
 -- v is a member of the set
@@ -14,7 +15,7 @@ member v s = getD (s .members) v false
 
 -- the set holds exactly the variables of the triples
 abbrev pub Gathers : VariableSet → List TriplePattern → Type 0
-Gathers s ts = (v : ℕ) → v < 16 → member v s ≡ mentions v ts
+Gathers s ts = (v : ℕ) → v < variables → member v s ≡ mentions v ts
 
 -- variable v is in both sets and not in the required one
 abbrev pub clash : ℕ → VariableSet → VariableSet → VariableSet → Bool
@@ -27,5 +28,5 @@ pub record Clash (required : VariableSet) (sets : List VariableSet) : Type 0 whe
   pub variable : ℕ
   pub ordered : first < second
   pub inside : second < length sets
-  pub known : variable < 16
+  pub known : variable < variables
   pub clashes : (d : VariableSet) → clash variable required (getD sets first d) (getD sets second d) ≡ true

@@ -4,10 +4,12 @@ ghost use Prim.Native.Nat.{_<_};
 ghost use lib.ListN.{length};
 ghost use Rattle.query.specs.Building.{Tracks, used-of};
 ghost use Rattle.query.specs.Drafts.{Draft, fresh, stepped, Keeps};
+ghost use Rattle.query.specs.Lawful.{most-blocks, most-in-all};
 ghost use Rattle.query.specs.Grammar.{room, unused, with-triples, with-nodes};
 ghost use Rattle.query.specs.declared.step.Step.the-variants.{Triple, Node as NodeStep, EndRequired};
 ghost use Rattle.query.specs.declared.step.Step.the-variants.{EndBlock, EndAlternative};
 use crate::builder::Builder;
+use crate::builder::MOST_BLOCKS;
 use crate::keep::keep;
 use crate::kept::Kept;
 use crate::node::Node;
@@ -35,7 +37,7 @@ impl Builder {
             nodes: 0,
             part: none,
             required: none,
-            blocks: [none; 4],
+            blocks: [none; MOST_BLOCKS],
             count: 0,
             shared: false,
             kept,
@@ -58,7 +60,7 @@ impl Builder {
 
     /// A triple of the part in work.
     pub(crate) fn triple(&mut self, triple: TriplePattern)
-        requires { ⌜ now self .triples < 64 ⌝ }
+        requires { ⌜ now self .triples < most-in-all ⌝ }
         ensures tracks { λ _. ⌜ ((d : Draft) → Tracks (now (self .entry)) d
             → Tracks (now (self .exit)) (stepped d (Triple triple))) ⌝ }
         ensures used { λ _. ⌜ used-of (now (self .exit)) ≡ with-triples (used-of (now (self .entry))) 1 ⌝ }
@@ -70,7 +72,7 @@ impl Builder {
 
     /// A node of the filter in work.
     pub(crate) fn node(&mut self, node: Node)
-        requires { ⌜ now self .nodes < 64 ⌝ }
+        requires { ⌜ now self .nodes < most-in-all ⌝ }
         ensures tracks { λ _. ⌜ ((d : Draft) → Tracks (now (self .entry)) d
             → Tracks (now (self .exit)) (stepped d (NodeStep node))) ⌝ }
         ensures used { λ _. ⌜ used-of (now (self .exit)) ≡ with-nodes (used-of (now (self .entry))) 1 ⌝ }
@@ -92,7 +94,7 @@ impl Builder {
 
     /// The triples and the filter in work are block number `number`.
     pub(crate) fn end_block(&mut self, number: usize)
-        requires { ⌜ number < 4 ⌝ }
+        requires { ⌜ number < most-blocks ⌝ }
         ensures tracks { λ _. ⌜ ((d : Draft) → number ≡ length (d .blocks) → Tracks (now (self .entry)) d
             → Tracks (now (self .exit)) (stepped d EndBlock)) ⌝ }
         ensures used { λ _. ⌜ used-of (now (self .exit)) ≡ used-of (now (self .entry)) ⌝ }

@@ -2,8 +2,12 @@
 ghost use mathlib.Core.Path.{_≡_};
 ghost use Prim.Native.Nat.{_≤_};
 ghost use lib.ListN.{length};
+ghost use Rattle.query.specs.Lawful.{most-blocks, most-in-all};
 use crate::kept::Kept;
 use crate::variables::VariableSet;
+
+/// The most blocks of an alternative.
+pub(crate) const MOST_BLOCKS: usize = 4;
 
 /// What has come in of a query: how many triples and nodes in all, the variables of each part of the
 /// alternative in work, and, if the query is built and not only checked, the parts themselves.
@@ -16,14 +20,14 @@ pub(crate) struct Builder {
     /// The variables of the required triples.
     pub(crate) required: VariableSet,
     /// The variables of each block.
-    pub(crate) blocks: [VariableSet; 4],
+    pub(crate) blocks: [VariableSet; MOST_BLOCKS],
     /// How many blocks there are.
     pub(crate) count: usize,
     /// Whether blocks of a finished alternative share a variable that its required triples lack.
     pub(crate) shared: bool,
     pub(crate) kept: Option<Kept>,
-    ghost few: { triples ≤ 64 },
-    ghost short: { nodes ≤ 64 },
-    ghost inside: { count ≤ 4 },
-    ghost full: { length blocks ≡ 4 },
+    ghost few: { triples ≤ most-in-all },
+    ghost short: { nodes ≤ most-in-all },
+    ghost inside: { count ≤ most-blocks },
+    ghost full: { length blocks ≡ most-blocks },
 }

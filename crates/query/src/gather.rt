@@ -3,6 +3,7 @@ ghost use mathlib.Core.Bool.{false, _||_};
 ghost use mathlib.Core.List.{List, [], _∷_, _++_};
 ghost use mathlib.Core.Path.{_≡_};
 ghost use Prim.Native.Nat.{ℕ, _<_};
+ghost use Rattle.query.specs.Codes.{variables};
 ghost use Rattle.query.specs.Variables.{member, Gathers};
 ghost use Rattle.query.specs.Lawful.{is-variable};
 ghost use Rattle.query.specs.declared.pattern.TriplePattern.{TriplePattern as Pattern};
@@ -17,13 +18,13 @@ impl VariableSet {
         ensures { λ r. ⌜ Gathers r [] ⌝ }
     {
         VariableSet {
-            members: [false; 16],
+            members: [false; VARIABLES],
         }
     }
 
     /// Whether variable `v` is a member.
     pub(crate) fn has(&self, v: usize) -> bool
-        requires { ⌜ v < 16 ⌝ }
+        requires { ⌜ v < variables ⌝ }
         ensures { λ r. ⌜ r ≡ member v (now (self .entry)) ⌝ }
     {
         self.members[v]
@@ -31,7 +32,7 @@ impl VariableSet {
 
     /// Makes the place a member, if it is a variable.
     fn add(&mut self, place: Place)
-        ensures { λ _. ⌜ ((v : ℕ) → v < 16 → member v (now (self .exit))
+        ensures { λ _. ⌜ ((v : ℕ) → v < variables → member v (now (self .exit))
             ≡ (member v (now (self .entry)) || is-variable v place)) ⌝ }
     {
         if let Place::Variable(v) = place {

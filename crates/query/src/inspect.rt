@@ -4,7 +4,7 @@ ghost use mathlib.Core.Path.{_≡_};
 ghost use Prim.Native.Nat.{_≤_};
 ghost use lib.ListN.{length};
 ghost use Rattle.query.specs.Format.{bytes-of};
-ghost use Rattle.query.specs.Lawful.{total};
+ghost use Rattle.query.specs.Lawful.{total, most-in-all};
 ghost use Rattle.query.specs.Parts.{part-of, group-of};
 ghost use Rattle.query.specs.Shape.{shape, counts-of};
 use crate::alternative::Alternative;
@@ -65,8 +65,8 @@ impl Query {
 
 /// How many triples and how many filter nodes the blocks have in all.
 fn totals(blocks: &[Block]) -> (usize, usize)
-    requires triples { ⌜ total (λ b. length (part-of b .triples)) (now blocks) ≤ 64 ⌝ }
-    requires nodes { ⌜ total (λ b. length (part-of b .filter)) (now blocks) ≤ 64 ⌝ }
+    requires triples { ⌜ total (λ b. length (part-of b .triples)) (now blocks) ≤ most-in-all ⌝ }
+    requires nodes { ⌜ total (λ b. length (part-of b .filter)) (now blocks) ≤ most-in-all ⌝ }
     ensures triples { λ r. ⌜ r .0 ≡ total (λ b. length (part-of b .triples)) (now (blocks .entry)) ⌝ }
     ensures nodes { λ r. ⌜ r .1 ≡ total (λ b. length (part-of b .filter)) (now (blocks .entry)) ⌝ }
 {

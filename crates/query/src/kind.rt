@@ -4,7 +4,7 @@ ghost use Rattle.query.specs.Codes.{number-of, kind-from};
 
 /// The kind of a filter node; the number behind it stands for it in a query's bytes.
 #[derive(Clone, Copy)]
-pub enum Kind {
+pub(crate) enum Kind {
     Equal = 1,
     Less = 2,
     Bound = 3,

@@ -9,7 +9,7 @@ mod gather;
 pub mod inspect;
 mod keep;
 mod kept;
-pub mod kind;
+mod kind;
 pub mod node;
 pub mod pattern;
 pub mod place;

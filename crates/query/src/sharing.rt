@@ -2,13 +2,14 @@
 ghost use mathlib.Core.Path.{_≡_};
 ghost use Prim.Native.Nat.{_<_};
 ghost use Rattle.std.specs.Orderings.{When};
+ghost use Rattle.query.specs.Codes.{variables};
 ghost use Rattle.query.specs.Variables.{clash, Clash};
 use crate::variables::VARIABLES;
 use crate::variables::VariableSet;
 
 /// Whether variable `v` is in both sets and not in the required one.
 fn clashes(v: usize, required: &VariableSet, first: &VariableSet, second: &VariableSet) -> bool
-    requires { ⌜ v < 16 ⌝ }
+    requires { ⌜ v < variables ⌝ }
     ensures { λ r. ⌜ r ≡ clash v (now (required .entry)) (now (first .entry)) (now (second .entry)) ⌝ }
 {
     first.has(v) && second.has(v) && !required.has(v)

@@ -1,6 +1,7 @@
 //! Sets of variables.
 ghost use mathlib.Core.Path.{_≡_};
 ghost use lib.ListN.{length};
+ghost use Rattle.query.specs.Codes.{variables};
 
 /// How many variables there are.
 pub(crate) const VARIABLES: usize = 16;
@@ -8,6 +9,6 @@ pub(crate) const VARIABLES: usize = 16;
 /// A set of variables: which of them are members.
 #[derive(Clone, Copy)]
 pub(crate) struct VariableSet {
-    pub(crate) members: [bool; 16],
-    ghost full: { length members ≡ 16 },
+    pub(crate) members: [bool; VARIABLES],
+    ghost full: { length members ≡ variables },
 }
