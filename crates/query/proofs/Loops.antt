@@ -63,7 +63,3 @@ module _ {S A : Type 0} (low high : ℕ) (item : S → Reader A) (step : S → A
   series-refused n mid more r q e t =
       ap (λ m. next m (λ k a l. one (times k item step s) (λ ys. ys) a l)) e
       ∙ ap (λ m. next m (λ ys a l. took ys a l)) t
-
-  pub series-uncounted : (r : Refusal) (q : ℕ) → count low high at bs ≡ refused r q
-      → series low high item step s at bs ≡ refused r q
-  series-uncounted r q e = ap (λ m. next m (λ k a l. one (times k item step s) (λ ys. ys) a l)) e

@@ -15,7 +15,7 @@ use Rattle.query.specs.declared.query.Query.{Query}
 use Rattle.query.specs.Parts.{Group}
 use Rattle.query.specs.Calls.{Scanned}
 use Rattle.query.specs.Grammar.{accepted, rejected, verdict}
-use Rattle.query.specs.Reads.{Unwritten, Barred, Checked, Told, Answered, Recovered}
+use Rattle.query.specs.Reads.{Unwritten, Barred, Checked, Recognised, Answered, Recovered}
 use Rattle.query.specs.Shape.{shape}
 use Rattle.query.proofs.Verdicts.{accepted-is-written, written-is-accepted, refused-for-good}
 
@@ -41,9 +41,9 @@ pub checked-scanned : {T : Type 0} (bytes : List ℕ) (r : Result T Rejection) (
 checked-scanned bytes (Ok x) b h = (h .0, h .1 .0)
 checked-scanned bytes (Err e) b h = h
 
-pub told-checked : {T : Type 0} (bytes : List ℕ) (r : Result T Rejection) → Checked bytes r → Told bytes r
-told-checked bytes (Ok x) (q, v) = let w = accepted-is-written bytes q v in (q, (w .0, w .1))
-told-checked bytes (Err e) h = (unwritten-rejected bytes (e .refusal) (e .place) h, barred-rejected bytes e h)
+pub recognised-checked : {T : Type 0} (bytes : List ℕ) (r : Result T Rejection) → Checked bytes r → Recognised bytes r
+recognised-checked bytes (Ok x) (q, v) = let w = accepted-is-written bytes q v in (q, (w .0, w .1))
+recognised-checked bytes (Err e) h = (unwritten-rejected bytes (e .refusal) (e .place) h, barred-rejected bytes e h)
 
 -- read
 

@@ -34,9 +34,9 @@ Checked bytes (Ok _) = (q : List Group) × (verdict bytes ≡ accepted q)
 Checked bytes (Err e) = verdict bytes ≡ rejected (e .refusal) (e .place)
 
 -- the bytes are the writing of a lawful query, or of none
-abbrev pub Told : {T : Type 0} → List ℕ → Result T Rejection → Type 0
-Told bytes (Ok _) = (q : List Group) × ((lawful q ≡ true) × (bytes ≡ bytes-of q))
-Told bytes (Err e) = Unwritten bytes × Barred bytes e
+abbrev pub Recognised : {T : Type 0} → List ℕ → Result T Rejection → Type 0
+Recognised bytes (Ok _) = (q : List Group) × ((lawful q ≡ true) × (bytes ≡ bytes-of q))
+Recognised bytes (Err e) = Unwritten bytes × Barred bytes e
 
 -- the query that the bytes are; or their refusal; or they are a query, and there is no memory for it
 abbrev pub Answered : List ℕ → Result Query ReadError → Type 0

@@ -1,5 +1,5 @@
 //! Reading a query from its bytes.
-ghost use Rattle.query.specs.Reads.{Checked, Told, Answered, Recovered};
+ghost use Rattle.query.specs.Reads.{Checked, Recognised, Answered, Recovered};
 use crate::builder::Builder;
 use crate::error::ReadError;
 use crate::error::ReadErrorFrom;
@@ -12,7 +12,7 @@ use std::alloc::Global;
 /// Whether the byte string is a query, or the refusal with its place. Allocates nothing.
 pub fn check(bytes: &[u8]) -> Result<(), Rejection>
     ensures answer { λ r. ⌜ Checked (now (bytes .entry)) r ⌝ }
-    ensures written { λ r. ⌜ Told (now (bytes .entry)) r ⌝ }
+    ensures written { λ r. ⌜ Recognised (now (bytes .entry)) r ⌝ }
 {
     let mut builder = Builder::new(None);
     scan(bytes, &mut builder)

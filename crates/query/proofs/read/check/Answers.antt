@@ -1,5 +1,5 @@
 use mathlib.Core.Path.{refl}
-use Rattle.query.proofs.Outcomes.{checked-scanned, told-checked}
+use Rattle.query.proofs.Outcomes.{checked-scanned, recognised-checked}
 use Rattle.query.proofs.read.check.Needs as need
 
 pub returns : need.returns
@@ -8,4 +8,4 @@ returns c =
     let h = checked-scanned bytes (c .scan .result) (c .scan .last .builder)
     (c .scan .ensures (record
     { tracks = c .new-builder .ensures .tracks; used = c .new-builder .ensures .used })) in
-    record { answer = h; written = told-checked bytes (c .scan .result) h }
+    record { answer = h; written = recognised-checked bytes (c .scan .result) h }
