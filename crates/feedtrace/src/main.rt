@@ -19,7 +19,8 @@ use std::error::AnyError;
 use std::io::BufRead;
 use std::io::BufReader;
 
-fn main(rt: LibcRuntime) -> Result<(), AnyError> {
+/// Answers every line of standard input.
+fn run(rt: &LibcRuntime) -> Result<(), AnyError> {
     let heap = rt.alloc();
     let mut session = Session::new();
     for line in BufReader::new(rt.stdin()).split(heap, b'\n') {
@@ -28,4 +29,8 @@ fn main(rt: LibcRuntime) -> Result<(), AnyError> {
         rt.print(session.reply(&answer))?;
     }
     Ok(())
+}
+
+fn main(rt: LibcRuntime) -> Result<(), AnyError> {
+    rt.report(run(&rt))
 }

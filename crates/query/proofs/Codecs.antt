@@ -27,7 +27,8 @@ use Rattle.query.specs.Codes.{within, when, lawful-place, code-of, coded, plac
 use Rattle.query.specs.Codes.{kind-from, most-variable, most-term}
 use Rattle.query.specs.Format.{place-bytes, triple-bytes, kind-of, operand-bytes, node-bytes, counted}
 use Rattle.query.specs.Lawful.{lawful-triple, lawful-node}
-use Rattle.query.specs.Grammar.{Read, took, refused, Reader, next, one, both, role, place, triple, variable}
+use Rattle.query.specs.Grammar.{place, triple, variable}
+use Rattle.query.specs.Readers.{Read, took, refused, Reader, next, one, both, role}
 use Rattle.query.specs.Grammar.{lower, operands, node}
 use Rattle.query.specs.Theorems.{by-number}
 use Rattle.query.proofs.Readers.{Stops, Codec, codec-like, when-some, role-codec, tested-codec}

@@ -11,7 +11,7 @@ use Rattle.varint.specs.Calls.{answer}
 use Rattle.varint.specs.Decode.{Decoded, ends-early, malformed, decoded, decode}
 use Rattle.varint.specs.Encode.{encode}
 use Rattle.varint.proofs.Laws.{encode-decode, length-encode}
-use Rattle.query.specs.Grammar.{took, number, numbered}
+use Rattle.query.specs.Readers.{took, number, numbered}
 
 pub decoded-answer : (d : Decoded) (n : Number) → Ok n ≡ answer d → d ≡ decoded (n .value) (n .length)
 decoded-answer ends-early n e = let z : _≡_ {A = ℕ} 0 1 = cc in absurd (omega arith)

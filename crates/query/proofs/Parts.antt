@@ -17,7 +17,8 @@ use Rattle.query.specs.Format.{triple-bytes, node-bytes, part-bytes, group-byt
 use Rattle.query.specs.Lawful.{every, total, lawful-triple, lawful-node, lawful-nodes, lawful-filter}
 use Rattle.query.specs.Lawful.{lawful-triples, lawful-part, lawful-group, limited, triples-in, nodes-in}
 use Rattle.query.specs.Lawful.{most-in-part, most-in-all, most-blocks, most-alternatives}
-use Rattle.query.specs.Grammar.{Reader, both, triple, triples, node, filter, room, Used, block, blocks}
+use Rattle.query.specs.Grammar.{triple, triples, node, filter, room, Used, block, blocks}
+use Rattle.query.specs.Readers.{Reader, both}
 use Rattle.query.specs.Grammar.{with-part, with-triples, with-group, unused, nodes-after, alternative}
 use Rattle.query.specs.Grammar.{alternatives}
 use Rattle.query.proofs.Readers.{Codec, codec-like}

@@ -16,7 +16,7 @@ use Rattle.varint.specs.Decode.{Decoded, ends-early, malformed, decoded, decode
 use Rattle.varint.proofs.Laws.{decode-encode, encode-decode, span-decoded, malformed-stays, span-malformed}
 use Rattle.refusal.specs.declared.refusal.Refusal.{Refusal}
 use Rattle.refusal.specs.declared.refusal.Refusal.the-variants.{EndsEarly, Malformed}
-use Rattle.query.specs.Grammar.{Read, took, refused, Reader, next, numbered, number, meant, role}
+use Rattle.query.specs.Readers.{Read, took, refused, Reader, next, numbered, number, meant, role}
 use Rattle.query.specs.Codes.{when}
 use Rattle.query.specs.Theorems.{by-number}
 

@@ -15,8 +15,9 @@ use Rattle.refusal.specs.declared.refusal.Refusal.{Refusal}
 use Rattle.refusal.specs.declared.rejection.Rejection.{Rejection}
 use Rattle.varint.specs.Encode.{largest}
 use Rattle.query.specs.declared.cursor.Cursor.{Cursor}
-use Rattle.query.specs.Grammar as grammar
-use Rattle.query.specs.Grammar.{Read, took, refused, Reader, times, series, Used, with-part, with-parts}
+use Rattle.query.specs.Readers as readers
+use Rattle.query.specs.Grammar.{Used, with-part, with-parts}
+use Rattle.query.specs.Readers.{Read, took, refused, Reader, times, series}
 use Rattle.query.specs.Grammar.{with-group}
 use Rattle.query.specs.Lawful.{total, triples-in, nodes-in}
 use Rattle.query.specs.Parts.{Part, Group}
@@ -94,7 +95,7 @@ module _ {S A : Type 0} (item : S → Reader A) (step : S → A → S) (state : 
         (s .left ∙ ap (λ n. prefixed (s .items) (ahead (times n item step (state (s .items))) here)) none)
 
     module _ (low high : ℕ) (before : Cursor)
-        (counted : ahead (grammar.count low high) before
+        (counted : ahead (readers.count low high) before
         ≡ took count (start .at) (drop (start .at) (start .bytes .now))) where
       pub sofar-all : count ≤ taken
           → ahead (series low high item step (state [])) before
@@ -116,7 +117,7 @@ module _ {S A : Type 0} (item : S → Reader A) (step : S → A → S) (state : 
 -- count
 
 pub count-high : (low high n : ℕ) (c : Cursor) (after : ℕ) (rest : List ℕ) → high ≤ largest
-    → ahead (grammar.count low high) c ≡ took n after rest → n ≤ high
+    → ahead (readers.count low high) c ≡ took n after rest → n ≤ high
 count-high low high n c after rest small e =
     leb-true n high (and-parts (leb low n) (leb n high)
     (count-codec low high small .only (c .at) (drop (c .at) (c .bytes .now)) n after rest e .0) .1)

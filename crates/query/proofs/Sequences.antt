@@ -17,7 +17,7 @@ use Rattle.refusal.specs.declared.refusal.Refusal.{Refusal}
 use Rattle.refusal.specs.declared.refusal.Refusal.the-variants.{CountOutside}
 use Rattle.query.specs.Codes.{within}
 use Rattle.query.specs.Format.{counted}
-use Rattle.query.specs.Grammar.{Read, took, refused, Reader, next, one, both, times, count, series}
+use Rattle.query.specs.Readers.{Read, took, refused, Reader, next, one, both, times, count, series}
 use Rattle.query.specs.Theorems.{by-number}
 use Rattle.query.proofs.Readers.{Step, next-took, next-refused, Stops, Codec, tested-codec}
 

@@ -14,7 +14,8 @@ use Rattle.refusal.specs.declared.refusal.Refusal.the-variants.{BytesLeft, Shar
 use Rattle.query.specs.Parts.{Group}
 use Rattle.query.specs.Format.{bytes-of}
 use Rattle.query.specs.Lawful.{limited, lawful, some, shares}
-use Rattle.query.specs.Grammar.{Read, took, refused, alternatives, Verdict, accepted, rejected, concluded}
+use Rattle.query.specs.Grammar.{alternatives, Verdict, accepted, rejected, concluded}
+use Rattle.query.specs.Readers.{Read, took, refused}
 use Rattle.query.specs.Grammar.{verdict}
 use Rattle.query.specs.Theorems.{Accepted-exactly, One-writing-each, by-number, number-end, Refused-for-good}
 use Rattle.query.proofs.Readers.{Stops}

@@ -14,7 +14,8 @@ use Rattle.query.specs.declared.cursor.Cursor.{Cursor}
 use Rattle.query.specs.declared.node.Node.{Node}
 use Rattle.query.specs.declared.pattern.TriplePattern.{TriplePattern}
 use Rattle.query.specs.Parts.{Part, Group}
-use Rattle.query.specs.Grammar.{Read, took, refused, Reader, Used, accepted, rejected, verdict}
+use Rattle.query.specs.Grammar.{Used, accepted, rejected, verdict}
+use Rattle.query.specs.Readers.{Read, took, refused, Reader}
 use Rattle.query.specs.Grammar.{triples, filter, block, blocks, alternative, alternatives, unused}
 use Rattle.query.specs.Grammar.{with-triples, with-nodes, with-part, with-parts, with-group}
 use Rattle.query.specs.Drafts.{Draft}

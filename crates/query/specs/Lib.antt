@@ -5,6 +5,7 @@ pub mod Format  -- a query's bytes
 pub mod Lawful  -- which queries there are
 pub mod Shape  -- a query by its alternatives
 pub mod Variables  -- sets of variables
+pub mod Readers  -- how bytes are read
 pub mod Grammar  -- what a reader makes of bytes
 pub mod Drafts  -- a query while its parts come in
 pub mod Building  -- what the builder knows

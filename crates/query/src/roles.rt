@@ -2,6 +2,7 @@
 ghost use mathlib.Core.Path.{_≡_};
 ghost use Rattle.query.specs.Calls.{ahead, Reads};
 ghost use Rattle.query.specs.Grammar as grammar;
+ghost use Rattle.query.specs.Readers as readers;
 use crate::cursor::Cursor;
 use crate::kind::Kind;
 use crate::place::MOST_VARIABLE;
@@ -13,7 +14,7 @@ use varint::number::ReadError;
 impl<'a> Cursor<'a> {
     /// The next number.
     fn number(&mut self) -> Result<u32, Rejection>
-        ensures answer { λ r. ⌜ Reads (ahead grammar.number (now (self .entry))) r (now (self .exit)) ⌝ }
+        ensures answer { λ r. ⌜ Reads (ahead readers.number (now (self .entry))) r (now (self .exit)) ⌝ }
         ensures same { λ _. ⌜ now (self .exit) .bytes ≡ now (self .entry) .bytes ⌝ }
     {
         let place = self.at;
@@ -35,7 +36,7 @@ impl<'a> Cursor<'a> {
 
     /// A count from `least` to `most`.
     pub(crate) fn count(&mut self, least: u32, most: u32) -> Result<u32, Rejection>
-        ensures answer { λ r. ⌜ Reads (ahead (grammar.count least most) (now (self .entry))) r
+        ensures answer { λ r. ⌜ Reads (ahead (readers.count least most) (now (self .entry))) r
             (now (self .exit)) ⌝ }
         ensures same { λ _. ⌜ now (self .exit) .bytes ≡ now (self .entry) .bytes ⌝ }
     {

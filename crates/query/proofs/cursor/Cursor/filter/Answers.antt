@@ -7,7 +7,8 @@ use Rattle.std.proofs.shelf.Lists.{length-push}
 use Rattle.std.proofs.shelf.Results.{err-from-errBy}
 use Rattle.query.specs.Building.{Tracks, used-of}
 use Rattle.query.specs.Calls.{ahead, with-nodes-in, Holds}
-use Rattle.query.specs.Grammar.{node, with-nodes, room, count}
+use Rattle.query.specs.Grammar.{node, with-nodes, room}
+use Rattle.query.specs.Readers.{count}
 use Rattle.query.proofs.Drafts.{node-in, node-in-none, holds-none}
 use Rattle.query.proofs.Scans.{sofar-none, sofar-more, sofar-all, sofar-stopped, count-high, takes-refused}
 use Rattle.query.proofs.cursor.Cursor.filter.Needs as need

@@ -7,7 +7,8 @@ use Rattle.std.proofs.shelf.Lists.{length-push}
 use Rattle.std.proofs.shelf.Results.{err-from-errBy}
 use Rattle.query.specs.Building.{Tracks, used-of}
 use Rattle.query.specs.Calls.{ahead, with-triples-in, Holds}
-use Rattle.query.specs.Grammar.{triple, with-triples, room, count}
+use Rattle.query.specs.Grammar.{triple, with-triples, room}
+use Rattle.query.specs.Readers.{count}
 use Rattle.query.proofs.Drafts.{triple-in, triple-in-none, holds-none}
 use Rattle.query.proofs.Scans.{sofar-none, sofar-more, sofar-all, sofar-stopped, takes-refused}
 use Rattle.query.proofs.cursor.Cursor.triples.Needs as need
