@@ -23,8 +23,10 @@ use Rattle.query.specs.declared.node.Node.{Node}
 use Rattle.query.specs.declared.node.Node.the-variants.{Equal, Less, Bound, Not, And, Or}
 use Rattle.query.specs.declared.pattern.TriplePattern.{TriplePattern}
 use Rattle.query.specs.Parts.{Part, Group}
-use Rattle.query.specs.Codes.{within, when, lawful-place, code-of, coded, place-from, number-of, kind-among}
-use Rattle.query.specs.Codes.{kind-from, most-variable, most-term}
+use Rattle.query.specs.Codes.{when, code-of, coded, place-from, number-of, kind-among}
+use Rattle.query.specs.Limits.{within, lawful-place}
+use Rattle.query.specs.Codes.{kind-from}
+use Rattle.query.specs.Limits.{most-variable, most-term}
 use Rattle.query.specs.Format.{place-bytes, triple-bytes, kind-of, operand-bytes, node-bytes, counted}
 use Rattle.query.specs.Lawful.{lawful-triple, lawful-node}
 use Rattle.query.specs.Grammar.{place, triple, variable}

@@ -10,10 +10,11 @@ use lib.ListN.{length, drop, getD}
 use Rattle.std.proofs.shelf.Lists.{length-map}
 use Rattle.std.proofs.shelf.Tests.{leb-true, and-parts}
 use Rattle.query.specs.declared.alternative.Alternative.{Alternative}
-use Rattle.query.specs.Codes.{within}
+use Rattle.query.specs.Limits.{within}
 use Rattle.query.specs.Lawful.{every, some, shares, total, triples-in, nodes-in, lawful-triples, lawful-part}
-use Rattle.query.specs.Lawful.{lawful-filter, lawful-group, limited, lawful, most-blocks, most-alternatives}
-use Rattle.query.specs.Lawful.{most-in-all}
+use Rattle.query.specs.Lawful.{lawful-filter, lawful-group, limited, lawful}
+use Rattle.query.specs.Limits.{most-blocks, most-alternatives}
+use Rattle.query.specs.Limits.{most-in-all}
 use Rattle.query.specs.Parts.{Group, group-of}
 use Rattle.query.proofs.Lawful.{total-next, total-map, total-most}
 

@@ -11,7 +11,8 @@ use Rattle.query.specs.declared.step.Step.the-variants as step
 use Rattle.query.specs.declared.step.Step.the-variants.{Triple}
 use Rattle.query.specs.Drafts.{Draft, stepped}
 use Rattle.query.specs.Building.{Tracks, used-of}
-use Rattle.query.specs.Calls.{Holds, with-triples-in, with-nodes-in}
+use Rattle.query.specs.Scanning.{Holds}
+use Rattle.query.specs.Drafts.{with-triples-in, with-nodes-in}
 use Rattle.query.specs.Grammar.{Used}
 
 pub same-draft : {p p′ : List Group} {q q′ : List TriplePattern} {r r′ : List Part}

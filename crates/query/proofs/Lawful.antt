@@ -133,13 +133,6 @@ pub total-map : {A B : Type 0} (g : A → B) (f : B → ℕ) (xs : List A) → t
 total-map g f [] = refl
 total-map g f (x ∷ xs) = ap (λ n. f (g x) + n) (total-map g f xs)
 
--- an element counts no more than all of them
-pub total-part : {A : Type 0} (f : A → ℕ) (xs : List A) (i : ℕ) (x : A) → i < length xs → x ≡ getD xs i x
-    → f x ≤ total f xs
-total-part f [] i x l is = absurd (omega arith)
-total-part f (y ∷ xs) zero x l is = omega (arith, ap f is)
-total-part f (y ∷ xs) (suc i) x l is = omega (arith, total-part f xs i x (omega arith) is)
-
 -- where each counts at most so much
 pub total-most : {A : Type 0} (f : A → ℕ) (most : ℕ) (ok : A → Bool) (xs : List A)
     → ((x : A) → ok x ≡ true → f x ≤ most)

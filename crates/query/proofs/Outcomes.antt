@@ -13,7 +13,7 @@ use Rattle.query.specs.declared.error.ReadError.{ReadError}
 use Rattle.query.specs.declared.error.ReadError.the-variants.{Refused, Memory}
 use Rattle.query.specs.declared.query.Query.{Query}
 use Rattle.query.specs.Parts.{Group}
-use Rattle.query.specs.Calls.{Scanned}
+use Rattle.query.specs.Scanning.{Scanned}
 use Rattle.query.specs.Grammar.{accepted, rejected, verdict}
 use Rattle.query.specs.Reads.{Unwritten, Barred, Checked, Recognised, Answered, Recovered}
 use Rattle.query.specs.Shape.{shape}

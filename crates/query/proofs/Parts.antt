@@ -12,11 +12,11 @@ use Rattle.varint.specs.Encode.{largest}
 use Rattle.query.specs.declared.node.Node.{Node}
 use Rattle.query.specs.declared.pattern.TriplePattern.{TriplePattern}
 use Rattle.query.specs.Parts.{Part, Group}
-use Rattle.query.specs.Codes.{within}
+use Rattle.query.specs.Limits.{within}
 use Rattle.query.specs.Format.{triple-bytes, node-bytes, part-bytes, group-bytes, counted, bytes-of}
 use Rattle.query.specs.Lawful.{every, total, lawful-triple, lawful-node, lawful-nodes, lawful-filter}
 use Rattle.query.specs.Lawful.{lawful-triples, lawful-part, lawful-group, limited, triples-in, nodes-in}
-use Rattle.query.specs.Lawful.{most-in-part, most-in-all, most-blocks, most-alternatives}
+use Rattle.query.specs.Limits.{most-in-part, most-in-all, most-blocks, most-alternatives}
 use Rattle.query.specs.Grammar.{triple, triples, node, filter, room, Used, block, blocks}
 use Rattle.query.specs.Readers.{Reader, both}
 use Rattle.query.specs.Grammar.{with-part, with-triples, with-group, unused, nodes-after, alternative}

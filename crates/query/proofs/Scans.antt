@@ -22,7 +22,7 @@ use Rattle.query.specs.Grammar.{with-group}
 use Rattle.query.specs.Lawful.{total, triples-in, nodes-in}
 use Rattle.query.specs.Parts.{Part, Group}
 use Rattle.query.proofs.Lawful.{total-push}
-use Rattle.query.specs.Calls.{ahead, Takes}
+use Rattle.query.specs.Scanning.{ahead, Takes}
 use Rattle.query.proofs.Sequences.{count-codec}
 use Rattle.query.proofs.Loops.{prefixed, prefixed-none, times-more, times-refused, times-done, series-took}
 use Rattle.query.proofs.Loops.{series-refused}

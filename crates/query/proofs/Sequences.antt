@@ -15,7 +15,7 @@ use Rattle.varint.specs.Encode.{encode, largest}
 use Rattle.varint.specs.Decode.{span}
 use Rattle.refusal.specs.declared.refusal.Refusal.{Refusal}
 use Rattle.refusal.specs.declared.refusal.Refusal.the-variants.{CountOutside}
-use Rattle.query.specs.Codes.{within}
+use Rattle.query.specs.Limits.{within}
 use Rattle.query.specs.Format.{counted}
 use Rattle.query.specs.Readers.{Read, took, refused, Reader, next, one, both, times, count, series}
 use Rattle.query.specs.Theorems.{by-number}

@@ -17,10 +17,10 @@ use Rattle.query.specs.declared.block.Block.{Block}
 use Rattle.query.specs.declared.node.Node.{Node}
 use Rattle.query.specs.declared.node.Node.the-variants.{Equal, Less, Bound, Not, And, Or}
 use Rattle.query.specs.declared.pattern.TriplePattern.{TriplePattern}
-use Rattle.query.specs.Codes.{within}
+use Rattle.query.specs.Limits.{within}
 use Rattle.query.specs.Format.{counted}
 use Rattle.query.specs.Lawful.{every, lawful-triple, lawful-triples, lawful-node, lawful-nodes, lawful-filter}
-use Rattle.query.specs.Lawful.{most-in-part}
+use Rattle.query.specs.Limits.{most-in-part}
 use Rattle.query.specs.Writes.{places-lawful}
 
 -- few enough to count in 32 bits, and each is ok

@@ -13,31 +13,11 @@ use Rattle.query.specs.declared.place.Place.{Place}
 use Rattle.query.specs.declared.place.Place.the-variants.{Variable, Term}
 use Rattle.query.specs.declared.kind.Kind.{Kind}
 use Rattle.query.specs.declared.kind.Kind.the-variants.{Equal, Less, Bound, Not, And, Or}
-
--- the highest number of a variable
-abbrev pub most-variable : ℕ
-most-variable = 15
-
--- how many variables there are
-abbrev pub variables : ℕ
-variables = 16
-
--- the highest number of a term in a query
-abbrev pub most-term : ℕ
-most-term = 1000000
-
--- n is from low to high
-abbrev pub within : ℕ → ℕ → ℕ → Bool
-within low high n = leb low n && leb n high
+use Rattle.query.specs.Limits.{lawful-place}
 
 -- x where the test holds, else none
 abbrev pub when : {A : Type 0} → Bool → A → Option A
 when test x = cond test (Some x) None
-
--- the place is a variable or a term that a query may hold
-abbrev pub lawful-place : Place → Bool
-lawful-place (Variable v) = within 0 most-variable v
-lawful-place (Term t) = within 1 most-term t
 
 -- the code that stands for the place
 abbrev pub code-of : Place → ℕ

@@ -20,32 +20,46 @@ pub record Draft : Type 0 where
   pub triples : List TriplePattern
   pub nodes : List node.Node
 
--- nothing has come in
-abbrev pub fresh : Draft
-fresh = record { done = []; required = []; blocks = []; triples = []; nodes = [] }
-
--- a triple more in the part in work
-abbrev pub with-triple : Draft → TriplePattern → Draft
-with-triple d t =
+-- the draft with these triples more in the part in work
+abbrev pub with-triples-in : Draft → List TriplePattern → Draft
+with-triples-in d ts =
     record {
       done = d .done;
       required = d .required;
       blocks = d .blocks;
-      triples = d .triples ++ t ∷ [];
-      nodes = d .nodes;
+      triples = d .triples ++ ts;
+      nodes
+          = d .nodes;
     }
 
--- a node more in the filter in work
-abbrev pub with-node : Draft → node.Node → Draft
-with-node d n =
+-- the draft with these nodes more in the filter in work
+abbrev pub with-nodes-in : Draft → List node.Node → Draft
+with-nodes-in d ns =
     record {
       done = d .done;
       required = d .required;
       blocks = d .blocks;
       triples = d .triples;
       nodes
-          = d .nodes ++ n ∷ [];
+          = d .nodes ++ ns;
     }
+
+-- the draft in which these alternatives, required triples and blocks are finished, and no part is in work
+abbrev pub finished : List Group → List TriplePattern → List Part → Draft
+finished done required blocks = record
+    { done = done; required = required; blocks = blocks; triples = []; nodes = [] }
+
+-- nothing has come in
+abbrev pub fresh : Draft
+fresh = finished [] [] []
+
+-- a triple more in the part in work
+abbrev pub with-triple : Draft → TriplePattern → Draft
+with-triple d t = with-triples-in d (t ∷ [])
+
+-- a node more in the filter in work
+abbrev pub with-node : Draft → node.Node → Draft
+with-node d n = with-nodes-in d (n ∷ [])
 
 -- the triples in work are the required ones
 abbrev pub required-ended : Draft → Draft

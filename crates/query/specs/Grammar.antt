@@ -16,9 +16,11 @@ use Rattle.query.specs.declared.node.Node.{Node}
 use Rattle.query.specs.declared.node.Node.the-variants.{Equal, Less, Bound, Not, And, Or}
 use Rattle.query.specs.declared.pattern.TriplePattern.{TriplePattern}
 use Rattle.query.specs.Parts.{Part, Group}
-use Rattle.query.specs.Codes.{within, when, place-from, kind-from, most-variable}
-use Rattle.query.specs.Lawful.{total, triples-in, nodes-in, shares, some, most-alternatives, most-blocks}
-use Rattle.query.specs.Lawful.{most-in-part, most-in-all}
+use Rattle.query.specs.Codes.{when, place-from, kind-from}
+use Rattle.query.specs.Limits.{within, most-variable}
+use Rattle.query.specs.Lawful.{total, triples-in, nodes-in, shares, some}
+use Rattle.query.specs.Limits.{most-alternatives, most-blocks}
+use Rattle.query.specs.Limits.{most-in-part, most-in-all}
 use Rattle.query.specs.Readers.{Read, took, refused, Reader, role, one, both, series}
 
 -- what is left of the most in one part where used of the most in all are taken

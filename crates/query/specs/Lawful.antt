@@ -12,23 +12,8 @@ use Rattle.query.specs.declared.node.Node.{Node}
 use Rattle.query.specs.declared.node.Node.the-variants.{Equal, Less, Bound, Not, And, Or}
 use Rattle.query.specs.declared.pattern.TriplePattern.{TriplePattern}
 use Rattle.query.specs.Parts.{Part, Group}
-use Rattle.query.specs.Codes.{within, lawful-place, most-variable, variables}
-
--- the most alternatives of a query
-abbrev pub most-alternatives : ℕ
-most-alternatives = 8
-
--- the most blocks of an alternative
-abbrev pub most-blocks : ℕ
-most-blocks = 4
-
--- the most triples of one part, and the most nodes of one filter
-abbrev pub most-in-part : ℕ
-most-in-part = 16
-
--- the most triples, and apart from them the most filter nodes, of a whole query
-abbrev pub most-in-all : ℕ
-most-in-all = 64
+use Rattle.query.specs.Limits.{within, lawful-place, most-variable, variables}
+use Rattle.query.specs.Limits.{most-alternatives, most-blocks, most-in-part, most-in-all}
 
 -- p holds of every element
 abbrev pub every : {A : Type 0} → (A → Bool) → List A → Bool

@@ -1,5 +1,6 @@
 -- Read in this order.
 pub mod Parts  -- a query as plain lists
+pub mod Limits  -- the limits of a query
 pub mod Codes  -- the numbers of places and of node kinds
 pub mod Format  -- a query's bytes
 pub mod Lawful  -- which queries there are
@@ -9,7 +10,7 @@ pub mod Readers  -- how bytes are read
 pub mod Grammar  -- what a reader makes of bytes
 pub mod Drafts  -- a query while its parts come in
 pub mod Building  -- what the builder knows
-pub mod Calls  -- what the calls answer
+pub mod Scanning  -- what reading a part does
 pub mod Theorems  -- what this crate proves
 pub mod Reads  -- what reading a byte string answers
 pub mod Writes  -- what writing does to a buffer

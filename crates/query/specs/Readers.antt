@@ -12,7 +12,8 @@ use Rattle.std.specs.declared.option.Option.the-variants.{Some, None}
 use Rattle.varint.specs.Decode.{Decoded, ends-early, malformed, decoded, decode}
 use Rattle.refusal.specs.declared.refusal.Refusal.{Refusal}
 use Rattle.refusal.specs.declared.refusal.Refusal.the-variants.{EndsEarly, Malformed, CountOutside}
-use Rattle.query.specs.Codes.{within, when}
+use Rattle.query.specs.Codes.{when}
+use Rattle.query.specs.Limits.{within}
 
 -- a value was taken, with the place behind it and the bytes from there on; or a number was refused at its place
 pub data Read (A : Type 0) : Type 0 where

@@ -10,7 +10,7 @@ use Rattle.varint.specs.Decode.{span}
 use Rattle.refusal.specs.declared.refusal.Refusal.{Refusal}
 use Rattle.refusal.specs.Numbers.{published}
 use Rattle.query.specs.Parts.{Group}
-use Rattle.query.specs.Codes.{within}
+use Rattle.query.specs.Limits.{within}
 use Rattle.query.specs.Format.{bytes-of}
 use Rattle.query.specs.Lawful.{lawful}
 use Rattle.query.specs.Grammar.{Verdict, accepted, rejected, verdict}

@@ -6,7 +6,7 @@ use Prim.Native.Nat.{ℕ, _<_}
 use lib.ListN.{getD, length}
 use Rattle.query.specs.declared.pattern.TriplePattern.{TriplePattern}
 use Rattle.query.specs.declared.variables.VariableSet.{VariableSet}
-use Rattle.query.specs.Codes.{variables}
+use Rattle.query.specs.Limits.{variables}
 use Rattle.query.specs.Lawful.{mentions}
 
 -- v is a member of the set

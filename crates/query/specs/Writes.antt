@@ -11,7 +11,7 @@ use Rattle.refusal.specs.declared.refusal.Refusal.the-variants.{BufferShort}
 use Rattle.refusal.specs.declared.rejection.Rejection.{Rejection}
 use Rattle.query.specs.declared.node.Node.{Node}
 use Rattle.query.specs.declared.node.Node.the-variants.{Equal, Less, Bound, Not, And, Or}
-use Rattle.query.specs.Codes.{lawful-place}
+use Rattle.query.specs.Limits.{lawful-place}
 
 -- the bytes stand at the place at, over what stood there, and r is the place behind them
 abbrev pub Put : List ℕ → ℕ → List ℕ → ℕ → List ℕ → Type 0

@@ -4,12 +4,14 @@ ghost use Prim.Native.Nat.{_<_};
 ghost use lib.ListN.{length};
 ghost use Rattle.query.specs.Building.{Tracks, used-of};
 ghost use Rattle.query.specs.Drafts.{Draft, fresh, stepped, Keeps};
-ghost use Rattle.query.specs.Lawful.{most-blocks, most-in-all};
+ghost use Rattle.query.specs.Limits.{most-blocks, most-in-all};
 ghost use Rattle.query.specs.Grammar.{room, unused, with-triples, with-nodes};
 ghost use Rattle.query.specs.declared.step.Step.the-variants.{Triple, Node as NodeStep, EndRequired};
 ghost use Rattle.query.specs.declared.step.Step.the-variants.{EndBlock, EndAlternative};
 use crate::builder::Builder;
 use crate::builder::MOST_BLOCKS;
+use crate::builder::MOST_IN_ALL;
+use crate::builder::MOST_IN_PART;
 use crate::keep::keep;
 use crate::kept::Kept;
 use crate::node::Node;
@@ -17,12 +19,6 @@ use crate::pattern::TriplePattern;
 use crate::sharing::shares;
 use crate::step::Step;
 use crate::variables::VariableSet;
-
-/// The most triples of one part, and the most nodes of one filter.
-pub(crate) const MOST_IN_PART: u32 = 16;
-
-/// The most triples, and apart from them the most filter nodes, of a whole query.
-const MOST_IN_ALL: u32 = 64;
 
 impl Builder {
     /// Nothing has come in; `kept` is where parts are kept, if they are, and holds none yet.

@@ -2,12 +2,21 @@
 ghost use mathlib.Core.Path.{_≡_};
 ghost use Prim.Native.Nat.{_≤_};
 ghost use lib.ListN.{length};
-ghost use Rattle.query.specs.Lawful.{most-blocks, most-in-all};
+ghost use Rattle.query.specs.Limits.{most-blocks, most-in-all};
 use crate::kept::Kept;
 use crate::variables::VariableSet;
 
+/// The most alternatives of a query.
+pub(crate) const MOST_ALTERNATIVES: u32 = 8;
+
 /// The most blocks of an alternative.
 pub(crate) const MOST_BLOCKS: usize = 4;
+
+/// The most triples of one part, and the most nodes of one filter.
+pub(crate) const MOST_IN_PART: u32 = 16;
+
+/// The most triples, and apart from them the most filter nodes, of a whole query.
+pub(crate) const MOST_IN_ALL: u32 = 64;
 
 /// What has come in of a query: how many triples and nodes in all, the variables of each part of the
 /// alternative in work, and, if the query is built and not only checked, the parts themselves.

@@ -3,7 +3,7 @@ ghost use mathlib.Core.Bool.{false, _||_};
 ghost use mathlib.Core.List.{List, [], _∷_, _++_};
 ghost use mathlib.Core.Path.{_≡_};
 ghost use Prim.Native.Nat.{ℕ, _<_};
-ghost use Rattle.query.specs.Codes.{variables};
+ghost use Rattle.query.specs.Limits.{variables};
 ghost use Rattle.query.specs.Variables.{member, Gathers};
 ghost use Rattle.query.specs.Lawful.{is-variable};
 ghost use Rattle.query.specs.declared.pattern.TriplePattern.{TriplePattern as Pattern};

@@ -1,6 +1,6 @@
 //! Reading the triples and nodes of a query.
 ghost use mathlib.Core.Path.{_≡_};
-ghost use Rattle.query.specs.Calls.{ahead, Reads};
+ghost use Rattle.query.specs.Scanning.{ahead, Reads};
 ghost use Rattle.query.specs.Grammar as grammar;
 use crate::cursor::Cursor;
 use crate::kind::Kind;

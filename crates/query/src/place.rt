@@ -1,7 +1,8 @@
 //! A place of a triple pattern or of a comparison: a variable or a term.
 ghost use mathlib.Core.Bool.{true};
 ghost use mathlib.Core.Path.{_≡_};
-ghost use Rattle.query.specs.Codes.{code-of, lawful-place, place-from};
+ghost use Rattle.query.specs.Codes.{code-of, place-from};
+ghost use Rattle.query.specs.Limits.{lawful-place};
 
 /// The highest number of a variable.
 pub const MOST_VARIABLE: u32 = 15;

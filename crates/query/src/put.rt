@@ -7,7 +7,7 @@ ghost use denote.Ref.{now};
 ghost use lib.ListN.{length};
 ghost use Rattle.std.specs.shelf.Lists.{All};
 ghost use Rattle.varint.specs.Encode.{encode, largest};
-ghost use Rattle.query.specs.Codes.{lawful-place};
+ghost use Rattle.query.specs.Limits.{lawful-place};
 ghost use Rattle.query.specs.Format.{counted, place-bytes};
 ghost use Rattle.query.specs.Writes.{Put};
 use crate::place::Place;

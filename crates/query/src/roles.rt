@@ -1,6 +1,6 @@
 //! Reading single numbers of a query, each in its role.
 ghost use mathlib.Core.Path.{_≡_};
-ghost use Rattle.query.specs.Calls.{ahead, Reads};
+ghost use Rattle.query.specs.Scanning.{ahead, Reads};
 ghost use Rattle.query.specs.Grammar as grammar;
 ghost use Rattle.query.specs.Readers as readers;
 use crate::cursor::Cursor;

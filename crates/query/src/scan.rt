@@ -2,18 +2,17 @@
 ghost use mathlib.Core.List.{[]};
 ghost use mathlib.Core.Path.{_≡_};
 ghost use Prim.Native.Nat.{_<_};
-ghost use Rattle.query.specs.Calls.{Took-triples, Took-filter, Took-block, Took-blocks, Took-alternative};
-ghost use Rattle.query.specs.Calls.{Took-alternatives, Holds, finished, Scanned};
+ghost use Rattle.query.specs.Scanning.{Took-triples, Took-filter, Took-block, Took-blocks, Took-alternative};
+ghost use Rattle.query.specs.Scanning.{Took-alternatives, Holds, Scanned};
+ghost use Rattle.query.specs.Drafts.{finished};
 ghost use Rattle.query.specs.Grammar.{unused};
-ghost use Rattle.query.specs.Lawful.{most-blocks};
+ghost use Rattle.query.specs.Limits.{most-blocks};
 use crate::builder::Builder;
+use crate::builder::MOST_ALTERNATIVES;
 use crate::builder::MOST_BLOCKS;
 use crate::cursor::Cursor;
 use refusal::refusal::Refusal;
 use refusal::rejection::Rejection;
-
-/// The most alternatives of a query.
-const MOST_ALTERNATIVES: u32 = 8;
 
 impl<'a> Cursor<'a> {
     /// At least `least` triples of a part.

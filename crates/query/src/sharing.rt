@@ -2,7 +2,7 @@
 ghost use mathlib.Core.Path.{_≡_};
 ghost use Prim.Native.Nat.{_<_};
 ghost use Rattle.std.specs.Orderings.{When};
-ghost use Rattle.query.specs.Codes.{variables};
+ghost use Rattle.query.specs.Limits.{variables};
 ghost use Rattle.query.specs.Variables.{clash, Clash};
 use crate::variables::VARIABLES;
 use crate::variables::VariableSet;

@@ -1,7 +1,7 @@
 use mathlib.Core.Path.{_≡_, sym, ap, subst, _∙_}
 use lib.ListN.{length}
 use Rattle.std.specs.declared.result.Result.the-variants.{Ok}
-use Rattle.query.specs.Calls.{finished}
+use Rattle.query.specs.Drafts.{finished}
 use Rattle.query.specs.Drafts.{Keeps, draft-of}
 use Rattle.query.specs.Grammar.{verdict, accepted}
 use Rattle.query.proofs.Outcomes.{recovered-answered}

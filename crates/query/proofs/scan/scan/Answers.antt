@@ -2,7 +2,7 @@ use mathlib.Core.Path.{_≡_, sym, ap, subst, _∙_}
 use lib.ListN.{drop}
 use Rattle.std.proofs.shelf.Results.{err-from-errBy}
 use Rattle.std.specs.declared.result.Result.the-variants.{Err}
-use Rattle.query.specs.Calls.{Scanned}
+use Rattle.query.specs.Scanning.{Scanned}
 use Rattle.query.specs.Readers.{took}
 use Rattle.query.proofs.Verdicts.{verdict-refused, verdict-left, verdict-shared, verdict-accepted}
 use Rattle.query.proofs.scan.scan.Needs as need

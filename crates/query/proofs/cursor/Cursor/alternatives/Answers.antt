@@ -1,9 +1,9 @@
 use mathlib.Core.List.{_∷_, [], _++_}
 use mathlib.Core.Path.{_≡_, refl, sym, ap, _∙_}
 use Rattle.std.proofs.shelf.Results.{err-from-errBy}
-use Rattle.query.specs.Calls.{ahead, Holds}
+use Rattle.query.specs.Scanning.{ahead, Holds}
 use Rattle.query.specs.Grammar.{alternative, with-group}
-use Rattle.query.specs.Lawful.{most-alternatives}
+use Rattle.query.specs.Limits.{most-alternatives}
 use Rattle.query.proofs.Scans.{with-groups, sofar-none, sofar-more, sofar-all, sofar-stopped, takes-refused}
 use Rattle.query.proofs.Scans.{groups-push}
 use Rattle.query.proofs.cursor.Cursor.alternatives.Needs as need

@@ -1,7 +1,8 @@
 -- The alternatives so far have come in, and the rest of them gives the answer.
 use mathlib.Core.List.{List, []}
 use mathlib.Core.Path.{_≡_}
-use Rattle.query.specs.Calls.{finished, Holds}
+use Rattle.query.specs.Scanning.{Holds}
+use Rattle.query.specs.Drafts.{finished}
 use Rattle.query.specs.Grammar.{alternative, unused, with-group}
 use Rattle.query.proofs.Scans.{Sofar, with-groups}
 use Rattle.query.proofs.cursor.Cursor.alternatives.Given as given

@@ -2,10 +2,10 @@ use mathlib.Core.List.{_∷_, [], _++_}
 use mathlib.Core.Path.{_≡_, refl, sym, ap, _∙_}
 use Rattle.std.proofs.shelf.Results.{err-from-errBy}
 use Rattle.query.specs.Building.{used-of}
-use Rattle.query.specs.Calls.{ahead, Holds}
+use Rattle.query.specs.Scanning.{ahead, Holds}
 use Rattle.query.specs.Grammar.{block, with-part, with-parts}
 use Rattle.query.specs.Readers.{series}
-use Rattle.query.specs.Lawful.{most-blocks}
+use Rattle.query.specs.Limits.{most-blocks}
 use Rattle.query.proofs.Scans.{sofar-none, sofar-more, sofar-all, sofar-stopped, takes-refused, parts-none}
 use Rattle.query.proofs.Scans.{parts-push}
 use Rattle.query.proofs.cursor.Cursor.blocks.Needs as need

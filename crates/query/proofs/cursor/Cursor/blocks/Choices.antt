@@ -3,7 +3,8 @@ use mathlib.Core.List.{List, []}
 use mathlib.Core.Path.{_≡_}
 use Rattle.query.specs.declared.pattern.TriplePattern.{TriplePattern}
 use Rattle.query.specs.Building.{Tracks, used-of}
-use Rattle.query.specs.Calls.{finished, Holds}
+use Rattle.query.specs.Scanning.{Holds}
+use Rattle.query.specs.Drafts.{finished}
 use Rattle.query.specs.Grammar.{block, with-part, with-parts}
 use Rattle.query.specs.Parts.{Group}
 use Rattle.query.proofs.Scans.{Sofar}

@@ -6,7 +6,8 @@ use lib.ListN.{length}
 use Rattle.std.proofs.shelf.Lists.{length-push}
 use Rattle.std.proofs.shelf.Results.{err-from-errBy}
 use Rattle.query.specs.Building.{Tracks, used-of}
-use Rattle.query.specs.Calls.{ahead, with-nodes-in, Holds}
+use Rattle.query.specs.Scanning.{ahead, Holds}
+use Rattle.query.specs.Drafts.{with-nodes-in}
 use Rattle.query.specs.Grammar.{node, with-nodes, room}
 use Rattle.query.specs.Readers.{count}
 use Rattle.query.proofs.Drafts.{node-in, node-in-none, holds-none}

@@ -4,7 +4,8 @@ use mathlib.Core.Path.{_≡_}
 use Prim.Native.Nat.{_+_}
 use lib.ListN.{length}
 use Rattle.query.specs.Building.{Tracks, used-of}
-use Rattle.query.specs.Calls.{with-nodes-in, Holds}
+use Rattle.query.specs.Scanning.{Holds}
+use Rattle.query.specs.Drafts.{with-nodes-in}
 use Rattle.query.specs.Drafts.{Draft}
 use Rattle.query.specs.Grammar.{node, with-nodes}
 use Rattle.query.proofs.Scans.{Sofar}

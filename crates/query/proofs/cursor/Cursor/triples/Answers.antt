@@ -6,7 +6,8 @@ use lib.ListN.{length}
 use Rattle.std.proofs.shelf.Lists.{length-push}
 use Rattle.std.proofs.shelf.Results.{err-from-errBy}
 use Rattle.query.specs.Building.{Tracks, used-of}
-use Rattle.query.specs.Calls.{ahead, with-triples-in, Holds}
+use Rattle.query.specs.Scanning.{ahead, Holds}
+use Rattle.query.specs.Drafts.{with-triples-in}
 use Rattle.query.specs.Grammar.{triple, with-triples, room}
 use Rattle.query.specs.Readers.{count}
 use Rattle.query.proofs.Drafts.{triple-in, triple-in-none, holds-none}

@@ -4,7 +4,8 @@ use mathlib.Core.Path.{_≡_}
 use Prim.Native.Nat.{ℕ, _+_}
 use lib.ListN.{length}
 use Rattle.query.specs.Building.{Tracks, used-of}
-use Rattle.query.specs.Calls.{with-triples-in, Holds}
+use Rattle.query.specs.Scanning.{Holds}
+use Rattle.query.specs.Drafts.{with-triples-in}
 use Rattle.query.specs.Drafts.{Draft}
 use Rattle.query.specs.Grammar.{triple, with-triples}
 use Rattle.query.proofs.Scans.{Sofar}

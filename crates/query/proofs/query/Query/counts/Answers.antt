@@ -7,7 +7,8 @@ use lib.ListN.{length}
 use Rattle.std.proofs.shelf.Lists.{length-map}
 use Rattle.std.specs.Of.Vec.{vec-items}
 use Rattle.query.specs.declared.inspect.Counts.{Counts}
-use Rattle.query.specs.Lawful.{total, triples-in, nodes-in, lawful, most-in-all}
+use Rattle.query.specs.Lawful.{total, triples-in, nodes-in, lawful}
+use Rattle.query.specs.Limits.{most-in-all}
 use Rattle.query.specs.Parts.{part-of, group-of}
 use Rattle.query.proofs.Counts.{Sums, sums-lawful, count-next}
 use Rattle.query.proofs.Lawful.{total-next, total-end, total-map}

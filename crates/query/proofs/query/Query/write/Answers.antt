@@ -7,10 +7,10 @@ use lib.Dec.{leb}
 use lib.ListN.{length}
 use Rattle.std.proofs.shelf.Tests.{and-parts}
 use Rattle.std.specs.Of.Vec.{vec-items}
-use Rattle.query.specs.Codes.{within}
+use Rattle.query.specs.Limits.{within}
 use Rattle.query.specs.Format.{group-bytes, counted, bytes-of}
 use Rattle.query.specs.Lawful.{every, lawful-group, limited, some, shares, total, triples-in, nodes-in}
-use Rattle.query.specs.Lawful.{most-alternatives, most-in-all}
+use Rattle.query.specs.Limits.{most-alternatives, most-in-all}
 use Rattle.query.specs.Parts.{group-of}
 use Rattle.query.specs.Writes.{Put}
 use Rattle.query.proofs.Sound.{Writable, mapped-writable, counted-map}

@@ -7,10 +7,10 @@ use lib.ListN.{length}
 use Rattle.std.proofs.shelf.Tests.{and-parts}
 use Rattle.std.specs.Of.Vec.{vec-items}
 use Rattle.query.specs.declared.alternative.Alternative.{Alternative}
-use Rattle.query.specs.Codes.{within}
+use Rattle.query.specs.Limits.{within}
 use Rattle.query.specs.Format.{triple-bytes, node-bytes, part-bytes, counted}
 use Rattle.query.specs.Lawful.{every, lawful-triple, lawful-triples, lawful-part, lawful-filter, lawful-group}
-use Rattle.query.specs.Lawful.{most-blocks}
+use Rattle.query.specs.Limits.{most-blocks}
 use Rattle.query.specs.Parts.{part-of, group-of}
 use Rattle.query.specs.Writes.{Put, places-lawful}
 use Rattle.query.proofs.Sound.{Writable, triples-writable, filter-writable, mapped-writable, counted-map}

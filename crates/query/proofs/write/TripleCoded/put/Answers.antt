@@ -1,7 +1,7 @@
 use mathlib.Core.Bool.{_&&_}
 use mathlib.Core.List.{_++_}
 use Rattle.std.proofs.shelf.Tests.{and-parts}
-use Rattle.query.specs.Codes.{lawful-place}
+use Rattle.query.specs.Limits.{lawful-place}
 use Rattle.query.specs.Format.{place-bytes}
 use Rattle.query.proofs.Writes.{room-first, room-second, put-append}
 use Rattle.query.proofs.write.TripleCoded.put.Needs as need

@@ -1,4 +1,4 @@
--- What the calls answer. Assumes nothing.
+-- What reading the parts of a query does to a cursor and a builder. Assumes nothing.
 --     ahead p c        what the reader p makes of the bytes from the cursor c on
 --     Reads m r c      r and the cursor c after it are what m says
 --     Takes m r c K    the part that m says came in, and K holds of it; or r is the refusal that m says
@@ -18,7 +18,7 @@ use Rattle.query.specs.Grammar.{Used, accepted, rejected, verdict}
 use Rattle.query.specs.Readers.{Read, took, refused, Reader}
 use Rattle.query.specs.Grammar.{triples, filter, block, blocks, alternative, alternatives, unused}
 use Rattle.query.specs.Grammar.{with-triples, with-nodes, with-part, with-parts, with-group}
-use Rattle.query.specs.Drafts.{Draft}
+use Rattle.query.specs.Drafts.{Draft, with-triples-in, with-nodes-in, finished}
 use Rattle.query.specs.Building.{Tracks, used-of}
 
 -- what the reader makes of the bytes from the cursor on
@@ -39,35 +39,6 @@ Takes m (Err e) c K = m ≡ refused (e .refusal) (e .place)
 pub record Holds (b : Builder) (d : Draft) (u : Used) : Type 0 where
   pub tracks : Tracks b d
   pub used : used-of b ≡ u
-
--- the draft with these triples more in the part in work
-abbrev pub with-triples-in : Draft → List TriplePattern → Draft
-with-triples-in d ts =
-    record {
-      done = d .done;
-      required = d .required;
-      blocks = d .blocks;
-      triples = d .triples ++ ts;
-      nodes
-          = d .nodes;
-    }
-
--- the draft with these nodes more in the filter in work
-abbrev pub with-nodes-in : Draft → List Node → Draft
-with-nodes-in d ns =
-    record {
-      done = d .done;
-      required = d .required;
-      blocks = d .blocks;
-      triples = d .triples;
-      nodes
-          = d .nodes ++ ns;
-    }
-
--- the draft in which these alternatives, required triples and blocks are finished, and no part is in work
-abbrev pub finished : List Group → List TriplePattern → List Part → Draft
-finished done required blocks = record
-    { done = done; required = required; blocks = blocks; triples = []; nodes = [] }
 
 -- From the builder b and the cursor c to the builder b′ and the cursor c′, with the result r: a part was read.
 
