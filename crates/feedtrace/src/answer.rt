@@ -28,7 +28,7 @@ pub enum Answer {
     Error(Expected),
 }
 
-pub impl fmt::Display for Answer as AnswerDisplay {
+pub(crate) impl fmt::Display for Answer as AnswerDisplay {
     ghost shown = { line-of };
 
     fn fmt<W: Write>(&self, f: &mut Formatter<W>) -> fmt::Result {

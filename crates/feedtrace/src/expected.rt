@@ -21,7 +21,7 @@ pub enum Expected {
     Memory,
 }
 
-pub impl fmt::Display for Expected as ExpectedDisplay {
+pub(crate) impl fmt::Display for Expected as ExpectedDisplay {
     fn fmt<W: Write>(&self, f: &mut Formatter<W>) -> fmt::Result {
         match self {
             Expected::Command => f.write_str("query, write or show"),

@@ -12,9 +12,9 @@ use std::fmt::Write;
 
 /// A filter's nodes, which show as `FILTER` and an expression; no nodes show as nothing.
 #[derive(Clone, Copy)]
-pub struct FilterText<'a>(pub &'a [Node]);
+pub(crate) struct FilterText<'a>(pub &'a [Node]);
 
-pub impl fmt::Display for FilterText<'_> as FilterTextDisplay {
+pub(crate) impl fmt::Display for FilterText<'_> as FilterTextDisplay {
     fn fmt<W: Write>(&self, f: &mut Formatter<W>) -> fmt::Result {
         let nodes = self.0;
         if nodes.is_empty() {

@@ -3,7 +3,7 @@ ghost use mathlib.Core.Path.{_≡_};
 ghost use Rattle.feedtrace.specs.Lengths.{digit-value, length-from};
 
 /// The greatest length that a command may give.
-pub const MOST_LENGTH: u32 = 1_000_000;
+pub(crate) const MOST_LENGTH: u32 = 1_000_000;
 
 /// The length that decimal digits say; none where there is no digit or something else, or where the
 /// number is greater than `MOST_LENGTH`.

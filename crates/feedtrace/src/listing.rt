@@ -20,11 +20,11 @@ const INNER: &str = "    ";
 /// The alternatives of a query, which show as whole lines. A lone one stands between the outer braces;
 /// several stand in braces of their own, with `UNION` between.
 #[derive(Clone, Copy)]
-pub struct Listing<'a> {
+pub(crate) struct Listing<'a> {
     pub alternatives: &'a [Alternative],
 }
 
-pub impl fmt::Display for Listing<'_> as ListingDisplay {
+pub(crate) impl fmt::Display for Listing<'_> as ListingDisplay {
     fn fmt<W: Write>(&self, f: &mut Formatter<W>) -> fmt::Result {
         f.write_str("SELECT * WHERE {\n")?;
         match self.alternatives {

@@ -11,12 +11,12 @@ use std::fmt::Write;
 /// An answer with the alternatives of the current query, which shows as whole lines: none for `Nothing`,
 /// the listing for `Shown`, and one line for any other answer.
 #[derive(Clone, Copy)]
-pub struct Reply<'a> {
+pub(crate) struct Reply<'a> {
     pub answer: &'a Answer,
     pub alternatives: &'a [Alternative],
 }
 
-pub impl fmt::Display for Reply<'_> as ReplyDisplay {
+pub(crate) impl fmt::Display for Reply<'_> as ReplyDisplay {
     fn fmt<W: Write>(&self, f: &mut Formatter<W>) -> fmt::Result {
         let alternatives = self.alternatives;
         match self.answer {

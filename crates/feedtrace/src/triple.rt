@@ -7,9 +7,9 @@ use std::fmt::Write;
 
 /// A place that shows as `?v0` to `?v15` for a variable, or as the number of a term.
 #[derive(Clone, Copy)]
-pub struct PlaceText(pub Place);
+pub(crate) struct PlaceText(pub Place);
 
-pub impl fmt::Display for PlaceText as PlaceTextDisplay {
+pub(crate) impl fmt::Display for PlaceText as PlaceTextDisplay {
     fn fmt<W: Write>(&self, f: &mut Formatter<W>) -> fmt::Result {
         match self.0 {
             Place::Variable(variable) => write!(f, "?v{variable}"),
@@ -20,9 +20,9 @@ pub impl fmt::Display for PlaceText as PlaceTextDisplay {
 
 /// A triple pattern that shows as its three places and a full stop.
 #[derive(Clone, Copy)]
-pub struct TripleText(pub TriplePattern);
+pub(crate) struct TripleText(pub TriplePattern);
 
-pub impl fmt::Display for TripleText as TripleTextDisplay {
+pub(crate) impl fmt::Display for TripleText as TripleTextDisplay {
     fn fmt<W: Write>(&self, f: &mut Formatter<W>) -> fmt::Result {
         let subject = PlaceText(self.0.subject);
         let property = PlaceText(self.0.property);

@@ -8,7 +8,7 @@ const REMARK: u8 = b'#';
 
 /// What the first word of a line says.
 #[derive(Clone, Copy)]
-pub enum Verb {
+pub(crate) enum Verb {
     /// There is no word, or it begins a remark.
     Absent,
     /// The word `query`.

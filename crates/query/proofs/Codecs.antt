@@ -10,6 +10,7 @@ use lib.ListN.{length}
 use Rattle.std.proofs.shelf.Lists.{append-assoc, length-append}
 use Rattle.std.proofs.shelf.Tests.{leb-true, ltb-true, le-leb, eqb-true, eq-eqb, ne-eqb, and-parts, and-from}
 use Rattle.std.proofs.shelf.Tests.{cases-bool, eqb-false}
+use Rattle.std.proofs.shelf.Tests.{and-left}
 use Rattle.std.specs.declared.option.Option.{Option}
 use Rattle.std.specs.declared.option.Option.the-variants.{Some, None}
 use Rattle.varint.specs.Encode.{encode, largest}
@@ -23,7 +24,7 @@ use Rattle.query.specs.declared.node.Node.{Node}
 use Rattle.query.specs.declared.node.Node.the-variants.{Equal, Less, Bound, Not, And, Or}
 use Rattle.query.specs.declared.pattern.TriplePattern.{TriplePattern}
 use Rattle.query.specs.Parts.{Part, Group}
-use Rattle.query.specs.Codes.{when, code-of, coded, place-from, number-of, kind-among}
+use Rattle.query.specs.Codes.{when, code-of, place-among, place-from, number-of, kind-among}
 use Rattle.query.specs.Limits.{within, lawful-place}
 use Rattle.query.specs.Codes.{kind-from}
 use Rattle.query.specs.Limits.{most-variable, most-term}
@@ -39,38 +40,34 @@ use Rattle.query.proofs.Sequences.{both-codec}
 
 -- place
 
-coded-odd : (v : ℕ) → coded (2 * v + 1) ≡ Variable v
-coded-odd v =
-    let odd : (2 * v + 1) % 2 ≡ 1 = omega arith in
+place-back : (p : Place) → lawful-place p ≡ true → place-from (code-of p) ≡ Some p
+place-back (Variable v) h =
     let half : (2 * v + 1) / 2 ≡ v = omega arith in
-    ap (λ b. cond b (Variable ((2 * v + 1) / 2)) (Term ((2 * v + 1) / 2))) (eq-eqb ((2 * v + 1) % 2) 1 odd)
-    ∙ ap Variable half
-
-coded-even : (t : ℕ) → coded (2 * t) ≡ Term t
-coded-even t =
-    let even : (2 * t) % 2 ≡ 1 → ⊥ = λ e. omega arith in
+    let same = eq-eqb (2 * v + 1) (2 * v + 1) refl in
+    ap (λ n. place-among (Variable n ∷ Term n ∷ []) (2 * v + 1)) half
+    ∙ ap (λ b. cond b (Some (Variable v)) (place-among (Term v ∷ []) (2 * v + 1))) (and-from _ _ same h)
+place-back (Term t) h =
     let half : (2 * t) / 2 ≡ t = omega arith in
-    ap (λ b. cond b (Variable ((2 * t) / 2)) (Term ((2 * t) / 2))) (ne-eqb ((2 * t) % 2) 1 even)
-    ∙ ap Term half
+    let other : 2 * t + 1 ≡ 2 * t → ⊥ = λ e. omega arith in
+    let same = eq-eqb (2 * t) (2 * t) refl in
+    ap (λ n. place-among (Variable n ∷ Term n ∷ []) (2 * t)) half
+    ∙ ap (λ b. cond b (Some (Variable t)) (place-among (Term t ∷ []) (2 * t)))
+    (and-left (eqb (2 * t + 1) (2 * t)) (lawful-place (Variable t)) (ne-eqb (2 * t + 1) (2 * t) other))
+    ∙ ap (λ b. cond b (Some (Term t)) None) (and-from _ _ same h)
 
--- the place that a place's code stands for is that place
-pub coded-code : (p : Place) → coded (code-of p) ≡ p
-coded-code (Variable v) = coded-odd v
-coded-code (Term t) = coded-even t
-
--- the code of the place that a code stands for is that code
-pub code-coded : (code : ℕ) → code-of (coded code) ≡ code
-code-coded code =
+-- whatever is found among places is lawful and has the code that was looked for
+place-found : (ps : List Place) (code : ℕ) (p : Place) → place-among ps code ≡ Some p
+    → (lawful-place p ≡ true) × (code-of p ≡ code)
+place-found [] code p e = let z : _≡_ {A = ℕ} 0 1 = cc in absurd (omega arith)
+place-found (q ∷ ps) code p e =
+    let test = eqb (code-of q) code && lawful-place q in
     ⊎-elim
-    (λ e. let odd = eqb-true (code % 2) 1 e in
-    let back : 2 * (code / 2) + 1 ≡ code = omega arith in
-    ap (λ b. code-of (cond b (Variable (code / 2)) (Term (code / 2)))) e ∙ back)
-    (λ e. let even = eqb-false (code % 2) 1 e in
-    let rest : code % 2 < 2 = omega arith in
-    let none : code % 2 ≡ 0 = omega arith in
-    let back : 2 * (code / 2) ≡ code = omega arith in
-    ap (λ b. code-of (cond b (Variable (code / 2)) (Term (code / 2)))) e ∙ back)
-    (cases-bool (eqb (code % 2) 1))
+    (λ t. let same : Some q ≡ Some p = sym (ap (λ b. cond b (Some q) (place-among ps code)) t) ∙ e in
+    let found : q ≡ p = cc in
+    let w = and-parts (eqb (code-of q) code) (lawful-place q) t in
+    (ap lawful-place (sym found) ∙ w .1, ap code-of (sym found) ∙ eqb-true (code-of q) code (w .0)))
+    (λ t. place-found ps code p (sym (ap (λ b. cond b (Some q) (place-among ps code)) t) ∙ e))
+    (cases-bool test)
 
 code-small : (p : Place) → lawful-place p ≡ true → code-of p ≤ largest
 code-small (Variable v) h = omega
@@ -80,9 +77,8 @@ code-small (Term t) h = omega (arith, leb-true t most-term (and-parts (leb 1 t) 
 pub place-codec : Codec place place-bytes (λ p. lawful-place p ≡ true)
 place-codec =
     role-codec PlaceCode place-from code-of (λ p. lawful-place p ≡ true)
-    (λ p h. (ap (λ x. when (lawful-place x) x) (coded-code p) ∙ ap (λ b. when b p) h, code-small p h))
-    (λ n p l e. let w = when-some (lawful-place (coded n)) (coded n) p e in
-    (subst (λ x. lawful-place x ≡ true) (sym (w .1)) (w .0), ap code-of (w .1) ∙ code-coded n))
+    (λ p h. (place-back p h, code-small p h))
+    (λ n p l e. place-found (Variable (n / 2) ∷ Term (n / 2) ∷ []) n p e)
 
 -- triple
 

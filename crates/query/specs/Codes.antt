@@ -24,13 +24,14 @@ abbrev pub code-of : Place → ℕ
 code-of (Variable v) = 2 * v + 1
 code-of (Term t) = 2 * t
 
--- the place, lawful or not, that has the code
-abbrev pub coded : ℕ → Place
-coded code = cond (eqb (code % 2) 1) (Variable (code / 2)) (Term (code / 2))
+-- the first of the places that is lawful and has the code
+abbrev pub place-among : List Place → ℕ → Option Place
+place-among [] code = None
+place-among (p ∷ ps) code = cond (eqb (code-of p) code && lawful-place p) (Some p) (place-among ps code)
 
--- the lawful place that has the code
+-- the lawful place that has the code, which is the variable or the term whose number is half of it
 abbrev pub place-from : ℕ → Option Place
-place-from code = when (lawful-place (coded code)) (coded code)
+place-from code = place-among (Variable (code / 2) ∷ Term (code / 2) ∷ []) code
 
 -- the number that stands for the kind
 abbrev pub number-of : Kind → ℕ

@@ -2,7 +2,7 @@
 ghost use mathlib.Core.Path.{_≡_};
 ghost use Prim.Native.Nat.{_<_};
 ghost use lib.ListN.{length};
-ghost use Rattle.query.specs.Building.{Tracks, used-of};
+ghost use Rattle.query.specs.Building.{Tracks, used-of, Finishes, Finished};
 ghost use Rattle.query.specs.Drafts.{Draft, fresh, stepped, Keeps};
 ghost use Rattle.query.specs.Limits.{most-blocks, most-in-all};
 ghost use Rattle.query.specs.Grammar.{room, unused, with-triples, with-nodes};
@@ -16,6 +16,7 @@ use crate::keep::keep;
 use crate::kept::Kept;
 use crate::node::Node;
 use crate::pattern::TriplePattern;
+use crate::query::Query;
 use crate::sharing::shares;
 use crate::step::Step;
 use crate::variables::VariableSet;
@@ -115,9 +116,10 @@ impl Builder {
         keep(&mut self.kept, Step::EndAlternative);
     }
 
-    /// The parts that are kept, if they are.
-    pub(crate) fn into_kept(self) -> Option<Kept>
-        ensures { λ r. ⌜ r ≡ self .kept ⌝ }
+    /// The query that has come in, which takes `size` bytes; none where its parts are not kept.
+    pub(crate) fn finish(self, size: usize) -> Option<Query>
+        requires { ⌜ Finishes self size ⌝ }
+        ensures { λ r. ⌜ Finished self r ⌝ }
     {
         let Builder {
             triples: _,
@@ -129,6 +131,9 @@ impl Builder {
             shared: _,
             kept,
         } = self;
-        kept
+        match kept {
+            Some(parts) => Some(parts.finish(size)),
+            None => None,
+        }
     }
 }

@@ -2,7 +2,6 @@
 ghost use mathlib.Core.Path.{_≡_};
 ghost use lib.ListN.{length};
 ghost use Rattle.query.specs.Limits.{variables};
-
 use crate::place::MOST_VARIABLE;
 
 /// How many variables there are.

@@ -11,7 +11,7 @@ use Rattle.query.specs.Drafts.{with-triples-in}
 use Rattle.query.specs.Grammar.{triple, with-triples, room}
 use Rattle.query.specs.Readers.{count}
 use Rattle.query.proofs.Drafts.{triple-in, triple-in-none, holds-none}
-use Rattle.query.proofs.Scans.{sofar-none, sofar-more, sofar-all, sofar-stopped, takes-refused}
+use Rattle.query.proofs.Scans.{sofar-none, sofar-more, sofar-all, sofar-stopped, count-high, takes-refused}
 use Rattle.query.proofs.cursor.Cursor.triples.Needs as need
 
 pub loop-number-holds : need.loop-number-holds
@@ -69,3 +69,13 @@ loop-number-again c =
                 (omega (arith, length-push (s .items) t, s .many));
           }),
     )
+
+-- the count is no more than the room that the builder has
+pub triple-requires-in-loop-number : need.triple-requires-in-loop-number
+triple-requires-in-loop-number c κs =
+    let b = c .args .builder .now in
+    let few = b .few in
+    let high = count-high (c .args .least) (c .triple-room .result) (c .in-Continue-count .count) (c .args .self .now) _ _
+    (omega (arith, c .triple-room .ensures)) (c .in-Continue-count .ensures tt .answer) in
+    let now-used = ap (λ u. u .triples) (c .loop-number .inv .1) in
+    omega (arith, high, now-used, c .triple-room .ensures)
