@@ -6,7 +6,8 @@ use lib.ListN.{length, take}
 use Rattle.std.proofs.shelf.Lists.{append-assoc, take-at, take-take}
 
 -- the front of what was filled, cut to its own length
-pub cut-front : (bytes rest behind all : List ℕ) (n long : ℕ) → all ≡ bytes ++ rest → n ≡ length bytes → length bytes ≤ long
+pub cut-front : (bytes rest behind all : List ℕ) (n long : ℕ) → all ≡ bytes ++ rest → n ≡ length bytes
+    → length bytes ≤ long
     → take n (take long (all ++ behind)) ≡ bytes
 cut-front bytes rest behind all n long e m h =
     ap (λ k. take k (take long (all ++ behind))) m

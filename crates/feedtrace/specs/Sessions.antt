@@ -37,7 +37,8 @@ abbrev pub Took : List ℕ → Session → Answer → Session → Type 0
 Took bytes s (Counts c) t =
     (q : List Group) × ((verdict bytes ≡ accepted q) × ((c ≡ counts-of q) × (current t ≡ Some q)))
 Took bytes s (Refused e) t = (verdict bytes ≡ rejected (e .refusal) (e .place)) × (t ≡ s)
-Took bytes s (Error e) t = (e ≡ expected.Memory) × (((q : List Group) × (verdict bytes ≡ accepted q)) × (t ≡ s))
+Took bytes s (Error e) t = (e ≡ expected.Memory)
+    × (((q : List Group) × (verdict bytes ≡ accepted q)) × (t ≡ s))
 Took bytes s Nothing t = ⊥
 Took bytes s (Bytes v) t = ⊥
 Took bytes s Shown t = ⊥
@@ -51,7 +52,8 @@ Wrote n s (Refused e) =
     (q : List Group) × ((current s ≡ Some q)
     × ((n < length (bytes-of q)) × (e ≡ record { refusal = BufferShort; place = 0 })))
 Wrote n s (Error e) =
-    ((e ≡ expected.Query) × (current s ≡ None)) ⊎ ((e ≡ expected.Memory) × ((q : List Group) × (current s ≡ Some q)))
+    ((e ≡ expected.Query) × (current s ≡ None)) ⊎ ((e ≡ expected.Memory)
+    × ((q : List Group) × (current s ≡ Some q)))
 Wrote n s Nothing = ⊥
 Wrote n s (Counts c) = ⊥
 Wrote n s Shown = ⊥
@@ -76,5 +78,6 @@ Steps s (command.Malformed e) r t = (r ≡ Error e) × (t ≡ s)
 -- a buffer of n bytes was filled by the query: its bytes, or the refusal of a short buffer
 abbrev pub Filled : {E Z : Type 0} → queries.Query → ℕ → Result (Result (Vec ℕ Z) Rejection) E → Type 0
 Filled q n (Ok (Ok v)) = (length (bytes-of (shape q)) ≤ n) × (vec-items v ≡ bytes-of (shape q))
-Filled q n (Ok (Err e)) = (n < length (bytes-of (shape q))) × (e ≡ record { refusal = BufferShort; place = 0 })
+Filled q n (Ok (Err e)) = (n < length (bytes-of (shape q)))
+    × (e ≡ record { refusal = BufferShort; place = 0 })
 Filled q n (Err _) = Unit {0}

@@ -2,7 +2,6 @@
 ghost use mathlib.Core.List.{[], map};
 ghost use mathlib.Core.Path.{_≡_};
 ghost use Rattle.std.specs.declared.option.Option.the-variants.{None};
-ghost use Rattle.std.specs.Of.Vec.{vec-items};
 ghost use Rattle.std.specs.Options.{valueOr};
 ghost use Rattle.query.specs.Parts.{group-of};
 ghost use Rattle.feedtrace.specs.Sessions.{current, Took, Wrote, Showed, Steps, Filled};
@@ -44,7 +43,8 @@ impl Session {
     /// current query.
     pub(crate) fn reply<'a>(&'a self, answer: &'a Answer) -> Reply<'a>
         ensures answer { λ r. ⌜ r .answer .now ≡ now (answer .entry) ⌝ }
-        ensures alternatives { λ r. ⌜ map group-of (r .alternatives .now) ≡ valueOr (current (now (self .entry))) [] ⌝ }
+        ensures alternatives { λ r. ⌜ map group-of (r .alternatives .now)
+            ≡ valueOr (current (now (self .entry))) [] ⌝ }
     {
         match &self.query {
             Some(query) => Reply {

@@ -2,7 +2,7 @@
 ghost use Rattle.hex.specs.Theorems.{Written-is-read};
 
 /// Reading the text of bytes gives the bytes.
-pub fn parse_reads_written() -> u8
+pub fn written_is_read() -> u8
     ensures { λ _. ⌜ Written-is-read ⌝ }
 {
     0

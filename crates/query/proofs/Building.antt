@@ -1,9 +1,9 @@
 -- Laws of what the builder knows. Assumes nothing.
-use mathlib.Core.Bool.{Bool, true, false, not, _&&_, _||_}
+use mathlib.Core.Bool.{Bool, true, false, not, _&&_}
 use mathlib.Core.List.{List, [], _∷_, _++_}
-use mathlib.Core.Logic.{⊎-elim, _≢_}
+use mathlib.Core.Logic.{⊎-elim}
 use mathlib.Core.Path.{_≡_, refl, sym, ap, subst, _∙_}
-use Prim.Native.Nat.{ℕ, zero, suc, _+_, _<_, _≤_}
+use Prim.Native.Nat.{ℕ, _+_, _<_, _≤_}
 use native.Mathlib.Omega.{arith}
 use lib.ListN.{length, getD, set, take}
 use Rattle.std.proofs.shelf.Lists.{getD-set-same, getD-set-other, getD-push, getD-append-left, length-push}
@@ -48,7 +48,7 @@ blocks-push sets parts n part x count room last before k s p l =
 -- shares
 
 -- what the blocks' sets have to do with the blocks
-abbrev pub Blocks-known : List VariableSet → List Part → Type 0
+abbrev Blocks-known : List VariableSet → List Part → Type 0
 Blocks-known sets parts = (k : ℕ) (s : VariableSet) (p : Part) → k < length parts
     → Gathers (getD sets k s) (getD parts k p .triples)
 

@@ -1,17 +1,16 @@
 -- Each part of the grammar takes exactly the writings of what it stands for. Assumes nothing.
-use mathlib.Core.Bool.{Bool, true, false, cond, _&&_}
+use mathlib.Core.Bool.{Bool, true, cond, _&&_}
 use mathlib.Core.List.{List, [], _∷_, _++_}
 use mathlib.Core.Logic.{⊎-elim}
 use mathlib.Core.Path.{_≡_, refl, sym, ap, subst, _∙_}
-use Prim.Native.Nat.{ℕ, zero, suc, _+_, _-_, _*_, _/_, _%_, _≤_, _<_, min}
+use Prim.Native.Nat.{ℕ, _+_, _-_, _*_, _/_, _≤_}
 use native.Mathlib.Omega.{arith}
 use lib.Dec.{leb, ltb, eqb}
 use lib.ListN.{length}
 use Rattle.std.proofs.shelf.Lists.{append-assoc, length-append}
-use Rattle.std.proofs.shelf.Tests.{leb-true, ltb-true, le-leb, eqb-true, eq-eqb, ne-eqb, and-parts, and-from}
-use Rattle.std.proofs.shelf.Tests.{cases-bool, eqb-false}
+use Rattle.std.proofs.shelf.Tests.{leb-true, ltb-true, eqb-true, eq-eqb, ne-eqb, and-parts, and-from}
+use Rattle.std.proofs.shelf.Tests.{cases-bool}
 use Rattle.std.proofs.shelf.Tests.{and-left}
-use Rattle.std.specs.declared.option.Option.{Option}
 use Rattle.std.specs.declared.option.Option.the-variants.{Some, None}
 use Rattle.varint.specs.Encode.{encode, largest}
 use Rattle.refusal.specs.declared.refusal.Refusal.{Refusal}
@@ -23,18 +22,17 @@ use Rattle.query.specs.declared.kind.Kind.the-variants as kind
 use Rattle.query.specs.declared.node.Node.{Node}
 use Rattle.query.specs.declared.node.Node.the-variants.{Equal, Less, Bound, Not, And, Or}
 use Rattle.query.specs.declared.pattern.TriplePattern.{TriplePattern}
-use Rattle.query.specs.Parts.{Part, Group}
-use Rattle.query.specs.Codes.{when, code-of, place-among, place-from, number-of, kind-among}
+use Rattle.query.specs.Codes.{code-of, place-among, place-from, number-of, kind-among}
 use Rattle.query.specs.Limits.{within, lawful-place}
 use Rattle.query.specs.Codes.{kind-from}
 use Rattle.query.specs.Limits.{most-variable, most-term}
-use Rattle.query.specs.Format.{place-bytes, triple-bytes, kind-of, operand-bytes, node-bytes, counted}
+use Rattle.query.specs.Format.{place-bytes, triple-bytes, kind-of, operand-bytes, node-bytes}
 use Rattle.query.specs.Lawful.{lawful-triple, lawful-node}
 use Rattle.query.specs.Grammar.{place, triple, variable}
-use Rattle.query.specs.Readers.{Read, took, refused, Reader, next, one, both, role}
+use Rattle.query.specs.Readers.{took, refused, Reader, next, one, both, role}
 use Rattle.query.specs.Grammar.{lower, operands, node}
 use Rattle.query.specs.Theorems.{by-number}
-use Rattle.query.proofs.Readers.{Stops, Codec, codec-like, when-some, role-codec, tested-codec}
+use Rattle.query.proofs.Readers.{Stops, Codec, codec-like, role-codec, tested-codec}
 use Rattle.query.proofs.Sequences.{one-took, one-refused, one-stops, both-took, both-back, both-stops}
 use Rattle.query.proofs.Sequences.{both-codec}
 

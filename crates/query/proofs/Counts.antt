@@ -2,12 +2,11 @@
 --     Held ..     what is counted so far, with one alternative more, is no more than a query may hold
 use mathlib.Core.Bool.{true, not, _&&_}
 use mathlib.Core.List.{List, map}
-use mathlib.Core.Path.{_≡_, sym, ap, subst, _∙_}
-use Prim.Native.Nat.{ℕ, _+_, _*_, _≤_, _<_}
+use mathlib.Core.Path.{_≡_}
+use Prim.Native.Nat.{ℕ, _+_, _≤_, _<_}
 use native.Mathlib.Omega.{arith}
 use lib.Dec.{leb}
 use lib.ListN.{length, drop, getD}
-use Rattle.std.proofs.shelf.Lists.{length-map}
 use Rattle.std.proofs.shelf.Tests.{leb-true, and-parts}
 use Rattle.query.specs.declared.alternative.Alternative.{Alternative}
 use Rattle.query.specs.Limits.{within}

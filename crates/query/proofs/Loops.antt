@@ -5,7 +5,7 @@ use mathlib.Core.Path.{_≡_, refl, sym, ap, _∙_}
 use Prim.Native.Nat.{ℕ, zero, suc}
 use Rattle.std.proofs.shelf.Lists.{append-nil, append-assoc}
 use Rattle.refusal.specs.declared.refusal.Refusal.{Refusal}
-use Rattle.query.specs.Readers.{Read, took, refused, Reader, next, one, both, times, count, series}
+use Rattle.query.specs.Readers.{Read, took, refused, Reader, next, one, times, count, series}
 
 -- what m says, with xs before what it took
 abbrev pub prefixed : {A : Type 0} → List A → Read (List A) → Read (List A)

@@ -1,7 +1,6 @@
 -- What the verdict on a byte string says of reading it. Assumes nothing.
-use mathlib.Core.Bool.{true}
 use mathlib.Core.List.{List}
-use mathlib.Core.Path.{_≡_, refl, sym, ap, subst, _∙_}
+use mathlib.Core.Path.{_≡_, sym, _∙_}
 use Prim.Native.Nat.{ℕ}
 use native.Mathlib.Omega.{arith}
 use Rattle.std.specs.declared.result.Result.{Result}
@@ -12,7 +11,6 @@ use Rattle.query.specs.declared.builder.Builder.{Builder}
 use Rattle.query.specs.declared.error.ReadError.{ReadError}
 use Rattle.query.specs.declared.error.ReadError.the-variants.{Refused, Memory}
 use Rattle.query.specs.declared.query.Query.{Query}
-use Rattle.query.specs.Parts.{Group}
 use Rattle.query.specs.Scanning.{Scanned}
 use Rattle.query.specs.Grammar.{accepted, rejected, verdict}
 use Rattle.query.specs.Reads.{Unwritten, Barred, Checked, Recognised, Answered, Recovered}
@@ -41,9 +39,11 @@ pub checked-scanned : {T : Type 0} (bytes : List ℕ) (r : Result T Rejection) (
 checked-scanned bytes (Ok x) b h = (h .0, h .1 .0)
 checked-scanned bytes (Err e) b h = h
 
-pub recognised-checked : {T : Type 0} (bytes : List ℕ) (r : Result T Rejection) → Checked bytes r → Recognised bytes r
+pub recognised-checked : {T : Type 0} (bytes : List ℕ) (r : Result T Rejection) → Checked bytes r
+    → Recognised bytes r
 recognised-checked bytes (Ok x) (q, v) = let w = accepted-is-written bytes q v in (q, (w .0, w .1))
-recognised-checked bytes (Err e) h = (unwritten-rejected bytes (e .refusal) (e .place) h, barred-rejected bytes e h)
+recognised-checked bytes (Err e) h
+    = (unwritten-rejected bytes (e .refusal) (e .place) h, barred-rejected bytes e h)
 
 -- read
 

@@ -1,11 +1,10 @@
 -- The lists of the grammar, its blocks and alternatives, each with its writing. Assumes nothing.
-use mathlib.Core.Bool.{Bool, true, false, cond, not, _&&_}
+use mathlib.Core.Bool.{Bool, true, _&&_}
 use mathlib.Core.List.{List, [], _∷_, _++_}
-use mathlib.Core.Logic.{⊎-elim}
-use mathlib.Core.Path.{_≡_, refl, sym, ap, subst, _∙_}
-use Prim.Native.Nat.{ℕ, zero, suc, _+_, _-_, _≤_, _<_, min}
+use mathlib.Core.Path.{_≡_, refl}
+use Prim.Native.Nat.{ℕ, _+_, _-_, _≤_}
 use native.Mathlib.Omega.{arith}
-use lib.Dec.{leb, ltb, eqb}
+use lib.Dec.{leb}
 use lib.ListN.{length}
 use Rattle.std.proofs.shelf.Tests.{leb-true, le-leb, and-parts, and-from}
 use Rattle.varint.specs.Encode.{largest}
@@ -18,7 +17,7 @@ use Rattle.query.specs.Lawful.{every, total, lawful-triple, lawful-node, lawfu
 use Rattle.query.specs.Lawful.{lawful-triples, lawful-part, lawful-group, limited, triples-in, nodes-in}
 use Rattle.query.specs.Limits.{most-in-part, most-in-all, most-blocks, most-alternatives}
 use Rattle.query.specs.Grammar.{triple, triples, node, filter, room, Used, block, blocks}
-use Rattle.query.specs.Readers.{Reader, both}
+use Rattle.query.specs.Readers.{both}
 use Rattle.query.specs.Grammar.{with-part, with-triples, with-group, unused, nodes-after, alternative}
 use Rattle.query.specs.Grammar.{alternatives}
 use Rattle.query.proofs.Readers.{Codec, codec-like}

@@ -2,10 +2,10 @@
 --     Stops p at bs r q   p refuses a number of bs for what it is, whatever stands behind that number
 --     Codec p enc Ok      p takes exactly the writings of what is Ok, and a refusal of one number is for good
 use mathlib.Core.Bool.{Bool, true, false}
-use mathlib.Core.List.{List, [], _∷_, _++_}
+use mathlib.Core.List.{List, _++_}
 use mathlib.Core.Logic.{_⊎_, inl, inr, ⊎-elim}
 use mathlib.Core.Path.{_≡_, refl, sym, ap, subst, _∙_}
-use Prim.Native.Nat.{ℕ, zero, suc, _+_, _-_, _≤_, _<_}
+use Prim.Native.Nat.{ℕ, _+_, _-_, _≤_}
 use native.Mathlib.Omega.{arith}
 use lib.ListN.{length, take, drop}
 use Rattle.std.proofs.shelf.Lists.{drop-at, take-append-drop, length-take-le}
@@ -15,7 +15,7 @@ use Rattle.varint.specs.Encode.{encode, largest}
 use Rattle.varint.specs.Decode.{Decoded, ends-early, malformed, decoded, decode, span}
 use Rattle.varint.proofs.Laws.{decode-encode, encode-decode, span-decoded, malformed-stays, span-malformed}
 use Rattle.refusal.specs.declared.refusal.Refusal.{Refusal}
-use Rattle.refusal.specs.declared.refusal.Refusal.the-variants.{EndsEarly, Malformed}
+use Rattle.refusal.specs.declared.refusal.Refusal.the-variants.{EndsEarly}
 use Rattle.query.specs.Readers.{Read, took, refused, Reader, next, numbered, number, meant, role}
 use Rattle.query.specs.Codes.{when}
 use Rattle.query.specs.Theorems.{by-number}

@@ -17,9 +17,9 @@ use Rattle.refusal.specs.declared.refusal.Refusal.{Refusal}
 use Rattle.refusal.specs.declared.refusal.Refusal.the-variants.{CountOutside}
 use Rattle.query.specs.Limits.{within}
 use Rattle.query.specs.Format.{counted}
-use Rattle.query.specs.Readers.{Read, took, refused, Reader, next, one, both, times, count, series}
+use Rattle.query.specs.Readers.{took, refused, Reader, next, one, both, times, count, series}
 use Rattle.query.specs.Theorems.{by-number}
-use Rattle.query.proofs.Readers.{Step, next-took, next-refused, Stops, Codec, tested-codec}
+use Rattle.query.proofs.Readers.{next-took, next-refused, Stops, Codec, tested-codec}
 
 -- one
 
@@ -89,7 +89,7 @@ module _ {A B C : Type 0} (p : Reader A) (q : A → Reader B) (c : A → B → C
       }
 
   -- both parts read from where they stand
-  pub both-from : (at mid : ℕ) (bs more : List ℕ) (a : A) (b : B) (after : ℕ) (rest : List ℕ) → p at bs
+  both-from : (at mid : ℕ) (bs more : List ℕ) (a : A) (b : B) (after : ℕ) (rest : List ℕ) → p at bs
       ≡ took a mid more
       → q a mid more ≡ took b after rest → both p q c at bs ≡ took (c a b) after rest
   both-from at mid bs more a b after rest e f =

@@ -1,6 +1,6 @@
 -- What a lawful query's lists have that writing them asks for. Assumes nothing.
 --     Writable ok xs     few enough to count in 32 bits, and each is ok
-use mathlib.Core.Bool.{Bool, true, _&&_}
+use mathlib.Core.Bool.{Bool, true}
 use mathlib.Core.List.{List, [], _∷_, _++_, map}
 use mathlib.Core.Path.{_≡_, refl, sym, ap, _∙_}
 use Prim.Native.Nat.{ℕ, _+_, _≤_}
@@ -12,8 +12,6 @@ use Rattle.std.proofs.shelf.Tests.{leb-true, and-parts}
 use Rattle.std.specs.Joined.{joined}
 use Rattle.std.specs.shelf.Lists.{All}
 use Rattle.varint.specs.Encode.{encode, largest}
-use Rattle.query.specs.declared.alternative.Alternative.{Alternative}
-use Rattle.query.specs.declared.block.Block.{Block}
 use Rattle.query.specs.declared.node.Node.{Node}
 use Rattle.query.specs.declared.node.Node.the-variants.{Equal, Less, Bound, Not, And, Or}
 use Rattle.query.specs.declared.pattern.TriplePattern.{TriplePattern}

@@ -1,24 +1,22 @@
 -- What the grammar's laws say of whole byte strings. Assumes nothing.
-use mathlib.Core.Bool.{Bool, true, false, cond, not, _&&_}
+use mathlib.Core.Bool.{Bool, true, false, cond, not}
 use mathlib.Core.List.{List, [], _∷_, _++_}
-use mathlib.Core.Logic.{⊎-elim}
 use mathlib.Core.Path.{_≡_, refl, sym, ap, subst, _∙_}
-use Prim.Native.Nat.{ℕ, zero, suc, _+_, _-_, _≤_, _<_}
+use Prim.Native.Nat.{ℕ, _+_, _-_, _≤_, _<_}
 use native.Mathlib.Omega.{arith}
 use lib.ListN.{length, take, drop}
 use Rattle.std.proofs.shelf.Lists.{append-nil, take-at, take-append-drop, drop-more, drop-all}
-use Rattle.std.proofs.shelf.Tests.{and-parts, and-from, cases-bool, not-true, not-from-false}
+use Rattle.std.proofs.shelf.Tests.{and-parts, and-from, not-true, not-from-false}
 use Rattle.varint.specs.Decode.{span}
 use Rattle.refusal.specs.declared.refusal.Refusal.{Refusal}
 use Rattle.refusal.specs.declared.refusal.Refusal.the-variants.{BytesLeft, SharedByBlocks}
 use Rattle.query.specs.Parts.{Group}
 use Rattle.query.specs.Format.{bytes-of}
 use Rattle.query.specs.Lawful.{limited, lawful, some, shares}
-use Rattle.query.specs.Grammar.{alternatives, Verdict, accepted, rejected, concluded}
+use Rattle.query.specs.Grammar.{alternatives, accepted, rejected, concluded}
 use Rattle.query.specs.Readers.{Read, took, refused}
 use Rattle.query.specs.Grammar.{verdict}
 use Rattle.query.specs.Theorems.{Accepted-exactly, One-writing-each, by-number, number-end, Refused-for-good}
-use Rattle.query.proofs.Readers.{Stops}
 use Rattle.query.proofs.Parts.{alternatives-codec}
 
 -- verdict

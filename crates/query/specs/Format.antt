@@ -1,7 +1,7 @@
 -- A query's bytes. Every number is written in seven-bit groups. Assumes nothing.
 --     counted f xs     how many there are, then each in order
 --     bytes-of q       the bytes of the query whose alternatives are q
-use mathlib.Core.List.{List, [], _∷_, _++_}
+use mathlib.Core.List.{List, _++_}
 use Prim.Native.Nat.{ℕ}
 use lib.ListN.{length}
 use Rattle.std.specs.Joined.{joined}

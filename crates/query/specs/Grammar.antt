@@ -8,7 +8,8 @@ use Prim.Native.Nat.{ℕ, _+_, _-_, min}
 use lib.Dec.{ltb}
 use lib.ListN.{length}
 use Rattle.refusal.specs.declared.refusal.Refusal.{Refusal}
-use Rattle.refusal.specs.declared.refusal.Refusal.the-variants.{PlaceCode, NodeInvalid, BytesLeft, SharedByBlocks}
+use Rattle.refusal.specs.declared.refusal.Refusal.the-variants.{PlaceCode, NodeInvalid, BytesLeft}
+use Rattle.refusal.specs.declared.refusal.Refusal.the-variants.{SharedByBlocks}
 use Rattle.query.specs.declared.place.Place.{Place}
 use Rattle.query.specs.declared.kind.Kind.{Kind}
 use Rattle.query.specs.declared.kind.Kind.the-variants as kinds

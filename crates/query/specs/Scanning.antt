@@ -11,7 +11,6 @@ use Rattle.std.specs.declared.result.Result.the-variants.{Ok, Err}
 use Rattle.refusal.specs.declared.rejection.Rejection.{Rejection}
 use Rattle.query.specs.declared.builder.Builder.{Builder}
 use Rattle.query.specs.declared.cursor.Cursor.{Cursor}
-use Rattle.query.specs.declared.node.Node.{Node}
 use Rattle.query.specs.declared.pattern.TriplePattern.{TriplePattern}
 use Rattle.query.specs.Parts.{Part, Group}
 use Rattle.query.specs.Grammar.{Used, accepted, rejected, verdict}
@@ -64,7 +63,8 @@ Took-block i b c r b′ c′ =
 
 -- the blocks of an alternative
 abbrev pub Took-blocks : {T : Type 0} → Builder → Cursor → Result T Rejection → Builder → Cursor → Type 0
-Took-blocks b c r b′ c′ = (done : List Group) (required : List TriplePattern) → Tracks b (finished done required [])
+Took-blocks b c r b′ c′ = (done : List Group) (required : List TriplePattern)
+    → Tracks b (finished done required [])
     → Takes (ahead (blocks (used-of b)) c) r c′
     (λ bs. Holds b′ (finished done required bs) (with-parts (used-of b) bs))
 
@@ -75,7 +75,8 @@ Took-alternative b c r b′ c′ = (done : List Group) → Tracks b (finished do
     (λ g. Holds b′ (finished (done ++ g ∷ []) [] []) (with-group (used-of b) g))
 
 -- the alternatives of a query, from a fresh builder
-abbrev pub Took-alternatives : {T : Type 0} → Builder → Cursor → Result T Rejection → Builder → Cursor → Type 0
+abbrev pub Took-alternatives : {T : Type 0} → Builder → Cursor → Result T Rejection → Builder → Cursor
+    → Type 0
 Took-alternatives b c r b′ c′ = Holds b (finished [] [] []) unused
     → Takes (ahead alternatives c) r c′ (λ q. Tracks b′ (finished q [] []))
 

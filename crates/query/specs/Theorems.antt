@@ -13,7 +13,7 @@ use Rattle.query.specs.Parts.{Group}
 use Rattle.query.specs.Limits.{within}
 use Rattle.query.specs.Format.{bytes-of}
 use Rattle.query.specs.Lawful.{lawful}
-use Rattle.query.specs.Grammar.{Verdict, accepted, rejected, verdict}
+use Rattle.query.specs.Grammar.{accepted, rejected, verdict}
 
 -- a byte string is accepted as q exactly if q is lawful and the string is its writing
 abbrev pub Accepted-exactly : Type 0

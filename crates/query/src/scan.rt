@@ -17,7 +17,8 @@ use refusal::rejection::Rejection;
 impl<'a> Cursor<'a> {
     /// At least `least` triples of a part.
     fn triples(&mut self, builder: &mut Builder, least: u32) -> Result<(), Rejection>
-        ensures answer { λ r. ⌜ Took-triples least (now (builder .entry)) (now (self .entry)) r (now (builder .exit))
+        ensures answer { λ r. ⌜ Took-triples least (now (builder .entry)) (now (self .entry)) r
+            (now (builder .exit))
             (now (self .exit)) ⌝ }
         ensures same { λ _. ⌜ now (self .exit) .bytes ≡ now (self .entry) .bytes ⌝ }
     {
@@ -48,7 +49,8 @@ impl<'a> Cursor<'a> {
     /// Block number `number` of an alternative.
     fn block(&mut self, builder: &mut Builder, number: usize) -> Result<(), Rejection>
         requires { ⌜ number < most-blocks ⌝ }
-        ensures answer { λ r. ⌜ Took-block number (now (builder .entry)) (now (self .entry)) r (now (builder .exit))
+        ensures answer { λ r. ⌜ Took-block number (now (builder .entry)) (now (self .entry)) r
+            (now (builder .exit))
             (now (self .exit)) ⌝ }
         ensures same { λ _. ⌜ now (self .exit) .bytes ≡ now (self .entry) .bytes ⌝ }
     {
@@ -74,7 +76,8 @@ impl<'a> Cursor<'a> {
 
     /// An alternative.
     fn alternative(&mut self, builder: &mut Builder) -> Result<(), Rejection>
-        ensures answer { λ r. ⌜ Took-alternative (now (builder .entry)) (now (self .entry)) r (now (builder .exit))
+        ensures answer { λ r. ⌜ Took-alternative (now (builder .entry)) (now (self .entry)) r
+            (now (builder .exit))
             (now (self .exit)) ⌝ }
         ensures same { λ _. ⌜ now (self .exit) .bytes ≡ now (self .entry) .bytes ⌝ }
     {
@@ -88,7 +91,8 @@ impl<'a> Cursor<'a> {
 
     /// The alternatives of a query.
     fn alternatives(&mut self, builder: &mut Builder) -> Result<(), Rejection>
-        ensures answer { λ r. ⌜ Took-alternatives (now (builder .entry)) (now (self .entry)) r (now (builder .exit))
+        ensures answer { λ r. ⌜ Took-alternatives (now (builder .entry)) (now (self .entry)) r
+            (now (builder .exit))
             (now (self .exit)) ⌝ }
         ensures same { λ _. ⌜ now (self .exit) .bytes ≡ now (self .entry) .bytes ⌝ }
     {

@@ -1,7 +1,6 @@
 //! Writing a query.
 ghost use mathlib.Core.Bool.{true};
 ghost use mathlib.Core.Path.{_≡_};
-ghost use Rattle.query.specs.Limits.{lawful-place};
 ghost use Rattle.query.specs.Format.{triple-bytes, node-bytes, operand-bytes, part-bytes, group-bytes};
 ghost use Rattle.query.specs.Format.{bytes-of};
 ghost use Rattle.query.specs.Lawful.{lawful-triple, lawful-part, lawful-group};

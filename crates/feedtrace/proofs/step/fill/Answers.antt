@@ -12,5 +12,9 @@ returns-in-Ok c =
     let bytes = bytes-of (shape (c .args .query .now)) in
     let wrote = c .in-Ok .ensures tt in
     let made = c .in-Continue-buffer .ensures tt .made in
-    let room : length bytes ≤ c .in-Continue-buffer .buffer .len = omega (arith, wrote .0, c .as-mut-slice .ensures .len) in
-    (omega (arith, room, made), c .truncate .ensures .items ∙ cut-front bytes _ _ _ _ _ (wrote .2) (wrote .1) room)
+    let room : length bytes
+    ≤ c .in-Continue-buffer .buffer .len = omega (arith, wrote .0, c .as-mut-slice .ensures .len) in (
+      omega (arith, room, made),
+      c .truncate .ensures .items
+          ∙ cut-front bytes _ _ _ _ _ (wrote .2) (wrote .1) room,
+    )

@@ -1,4 +1,3 @@
-use mathlib.Core.Path.{refl}
 use Rattle.query.proofs.Outcomes.{checked-scanned, recognised-checked}
 use Rattle.query.proofs.read.check.Needs as need
 

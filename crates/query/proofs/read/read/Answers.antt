@@ -22,7 +22,8 @@ kept-is-read c k is =
 
 pub finish-requires : need.finish-requires
 finish-requires c κs k is =
-    let law = accepted-is-written (c .args .bytes .now) _ (kept-is-read (need.at·finish-requires c .In-Continue-scan) k is) in
+    let law = accepted-is-written (c .args .bytes .now) _
+    (kept-is-read (need.at·finish-requires c .In-Continue-scan) k is) in
     (law .0, ap length (law .1))
 
 pub returns-in-Some : need.returns-in-Some

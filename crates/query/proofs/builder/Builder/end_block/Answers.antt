@@ -1,5 +1,4 @@
-use mathlib.Core.Path.{refl, _∙_, ap, sym}
-use Prim.Native.Nat.{_+_}
+use mathlib.Core.Path.{refl}
 use Rattle.std.proofs.shelf.Lists.{length-push}
 use native.Mathlib.Omega.{arith}
 use Rattle.query.proofs.Building.{blocks-push}

@@ -1,7 +1,6 @@
-use mathlib.Core.List.{_∷_, [], _++_}
-use mathlib.Core.Path.{_≡_, refl, sym, ap, _∙_}
+use mathlib.Core.Path.{refl, sym, ap, _∙_}
 use Rattle.std.proofs.shelf.Results.{err-from-errBy}
-use Rattle.query.specs.Scanning.{ahead, Holds}
+use Rattle.query.specs.Scanning.{ahead}
 use Rattle.query.specs.Grammar.{alternative, with-group}
 use Rattle.query.specs.Limits.{most-alternatives}
 use Rattle.query.proofs.Scans.{with-groups, sofar-none, sofar-more, sofar-all, sofar-stopped, takes-refused}

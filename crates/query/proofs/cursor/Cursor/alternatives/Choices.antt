@@ -1,5 +1,5 @@
 -- The alternatives so far have come in, and the rest of them gives the answer.
-use mathlib.Core.List.{List, []}
+use mathlib.Core.List.{[]}
 use mathlib.Core.Path.{_≡_}
 use Rattle.query.specs.Scanning.{Holds}
 use Rattle.query.specs.Drafts.{finished}

@@ -1,8 +1,7 @@
-use mathlib.Core.List.{_∷_, [], _++_}
-use mathlib.Core.Path.{_≡_, refl, sym, ap, _∙_}
+use mathlib.Core.Path.{refl, sym, ap, _∙_}
 use Rattle.std.proofs.shelf.Results.{err-from-errBy}
 use Rattle.query.specs.Building.{used-of}
-use Rattle.query.specs.Scanning.{ahead, Holds}
+use Rattle.query.specs.Scanning.{ahead}
 use Rattle.query.specs.Grammar.{block, with-part, with-parts}
 use Rattle.query.specs.Readers.{series}
 use Rattle.query.specs.Limits.{most-blocks}

@@ -1,12 +1,12 @@
-use mathlib.Core.List.{_∷_, [], _++_}
+use mathlib.Core.List.{[]}
 use mathlib.Core.Path.{_≡_, refl, sym, ap, subst, _∙_}
-use Prim.Native.Nat.{ℕ, _+_}
+use Prim.Native.Nat.{_+_}
 use native.Mathlib.Omega.{arith}
 use lib.ListN.{length}
 use Rattle.std.proofs.shelf.Lists.{length-push}
 use Rattle.std.proofs.shelf.Results.{err-from-errBy}
 use Rattle.query.specs.Building.{Tracks, used-of}
-use Rattle.query.specs.Scanning.{ahead, Holds}
+use Rattle.query.specs.Scanning.{ahead}
 use Rattle.query.specs.Drafts.{with-nodes-in}
 use Rattle.query.specs.Grammar.{node, with-nodes, room}
 use Rattle.query.specs.Readers.{count}

@@ -1,5 +1,4 @@
 -- The nodes so far have come in, and the rest of them gives the answer.
-use mathlib.Core.List.{List}
 use mathlib.Core.Path.{_≡_}
 use Prim.Native.Nat.{_+_}
 use lib.ListN.{length}

@@ -1,4 +1,4 @@
-use mathlib.Core.List.{_∷_, [], _++_}
+use mathlib.Core.List.{[]}
 use mathlib.Core.Path.{_≡_, refl, sym, ap, subst, _∙_}
 use Prim.Native.Nat.{ℕ, _+_}
 use native.Mathlib.Omega.{arith}
@@ -6,12 +6,12 @@ use lib.ListN.{length}
 use Rattle.std.proofs.shelf.Lists.{length-push}
 use Rattle.std.proofs.shelf.Results.{err-from-errBy}
 use Rattle.query.specs.Building.{Tracks, used-of}
-use Rattle.query.specs.Scanning.{ahead, Holds}
+use Rattle.query.specs.Scanning.{ahead}
 use Rattle.query.specs.Drafts.{with-triples-in}
 use Rattle.query.specs.Grammar.{triple, with-triples, room}
 use Rattle.query.specs.Readers.{count}
 use Rattle.query.proofs.Drafts.{triple-in, triple-in-none, holds-none}
-use Rattle.query.proofs.Scans.{sofar-none, sofar-more, sofar-all, sofar-stopped, count-high, takes-refused}
+use Rattle.query.proofs.Scans.{sofar-none, sofar-more, sofar-stopped, count-high, takes-refused}
 use Rattle.query.proofs.cursor.Cursor.triples.Needs as need
 
 pub loop-number-holds : need.loop-number-holds
@@ -75,7 +75,8 @@ pub triple-requires-in-loop-number : need.triple-requires-in-loop-number
 triple-requires-in-loop-number c κs =
     let b = c .args .builder .now in
     let few = b .few in
-    let high = count-high (c .args .least) (c .triple-room .result) (c .in-Continue-count .count) (c .args .self .now) _ _
+    let high = count-high (c .args .least) (c .triple-room .result) (c .in-Continue-count .count)
+    (c .args .self .now) _ _
     (omega (arith, c .triple-room .ensures)) (c .in-Continue-count .ensures tt .answer) in
     let now-used = ap (λ u. u .triples) (c .loop-number .inv .1) in
     omega (arith, high, now-used, c .triple-room .ensures)

@@ -1,5 +1,4 @@
 -- The triples so far have come in, and the rest of them gives the answer.
-use mathlib.Core.List.{List}
 use mathlib.Core.Path.{_≡_}
 use Prim.Native.Nat.{ℕ, _+_}
 use lib.ListN.{length}

@@ -1,7 +1,7 @@
 use mathlib.Core.List.{map}
 use mathlib.Core.Path.{_≡_, refl, ap, _∙_}
 use Rattle.std.specs.Of.Vec.{vec-items}
-use Rattle.query.specs.Parts.{Group, part-of, group-of}
+use Rattle.query.specs.Parts.{part-of, group-of}
 use Rattle.query.proofs.Drafts.{same-draft, map-pushed}
 use Rattle.query.proofs.kept.Kept.end_alternative.Needs as need
 

@@ -1,6 +1,6 @@
 use mathlib.Core.Path.{_≡_, refl, ap, _∙_}
 use Rattle.std.specs.Of.Vec.{vec-items}
-use Rattle.query.specs.Parts.{Part, part-of}
+use Rattle.query.specs.Parts.{part-of}
 use Rattle.query.proofs.Drafts.{same-draft, map-pushed}
 use Rattle.query.proofs.kept.Kept.end_block.Needs as need
 

@@ -10,7 +10,7 @@ use Rattle.query.specs.declared.inspect.Counts.{Counts}
 use Rattle.query.specs.Lawful.{total, triples-in, nodes-in, lawful}
 use Rattle.query.specs.Limits.{most-in-all}
 use Rattle.query.specs.Parts.{part-of, group-of}
-use Rattle.query.proofs.Counts.{Sums, sums-lawful, count-next}
+use Rattle.query.proofs.Counts.{sums-lawful, count-next}
 use Rattle.query.proofs.Lawful.{total-next, total-end, total-map}
 use Rattle.query.proofs.query.Query.counts.Needs as need
 use Rattle.query.proofs.query.Query.counts.Needs.{After-as-slice, After-len-blocks}

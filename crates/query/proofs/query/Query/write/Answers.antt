@@ -1,14 +1,13 @@
-use mathlib.Core.Bool.{true, _&&_, not}
+use mathlib.Core.Bool.{_&&_, not}
 use mathlib.Core.List.{map}
-use mathlib.Core.Path.{_≡_, refl, sym, ap, subst, _∙_}
-use Prim.Native.Nat.{_+_, _≤_}
+use mathlib.Core.Path.{sym, ap, subst, _∙_}
 use native.Mathlib.Omega.{arith}
 use lib.Dec.{leb}
 use lib.ListN.{length}
 use Rattle.std.proofs.shelf.Tests.{and-parts}
 use Rattle.std.specs.Of.Vec.{vec-items}
 use Rattle.query.specs.Limits.{within}
-use Rattle.query.specs.Format.{group-bytes, counted, bytes-of}
+use Rattle.query.specs.Format.{group-bytes, counted}
 use Rattle.query.specs.Lawful.{every, lawful-group, limited, some, shares, total, triples-in, nodes-in}
 use Rattle.query.specs.Limits.{most-alternatives, most-in-all}
 use Rattle.query.specs.Parts.{group-of}

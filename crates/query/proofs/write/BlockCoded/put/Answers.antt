@@ -1,5 +1,4 @@
-use mathlib.Core.Bool.{true}
-use mathlib.Core.Path.{_≡_, sym, subst}
+use mathlib.Core.Path.{sym, subst}
 use Prim.Native.Nat.{_+_, _≤_}
 use lib.ListN.{length}
 use Rattle.std.proofs.shelf.Tests.{and-parts}
