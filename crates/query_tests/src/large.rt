@@ -38,8 +38,8 @@ fn longest(heap: Global) -> Result<Vec<u8>, AllocError> {
     Ok(bytes)
 }
 
-/// Four alternatives of sixteen triples and sixteen nodes, then one of so many triples and nodes.
-fn with_totals(heap: Global, triples: u8, nodes: u8) -> Result<Vec<u8>, AllocError> {
+/// Four alternatives of sixteen triples and sixteen nodes, then one with the bytes of the tail.
+fn with_tail(heap: Global, tail: &[u8]) -> Result<Vec<u8>, AllocError> {
     let mut bytes = Vec::new(heap);
     bytes.push(5)?;
     for _ in 0..4 {
@@ -48,11 +48,19 @@ fn with_totals(heap: Global, triples: u8, nodes: u8) -> Result<Vec<u8>, AllocErr
         bytes.extend_from_slice(&[0, 16])?;
         repeat(&mut bytes, &[3, 0], 16)?;
     }
-    bytes.push(triples)?;
-    repeat(&mut bytes, &[2, 2, 2], usize::from(triples))?;
-    bytes.extend_from_slice(&[0, nodes])?;
-    repeat(&mut bytes, &[3, 0], usize::from(nodes))?;
+    bytes.extend_from_slice(tail)?;
     Ok(bytes)
+}
+
+/// Where the last number that begins before the end begins, or the end where a number ends there.
+fn number_start(bytes: &[u8]) -> usize {
+    let mut start = 0;
+    for (i, byte) in bytes.iter().enumerate() {
+        if *byte < 128 {
+            start = i + 1;
+        }
+    }
+    start
 }
 
 #[test]
@@ -82,11 +90,35 @@ fn the_longest_query_has_1113_bytes_and_is_written_back(rt: LibcRuntime) -> Resu
 }
 
 #[test]
+fn every_proper_prefix_of_the_longest_query_ends_early(rt: LibcRuntime) -> Result<(), Fail> {
+    let bytes = longest(rt.alloc())?;
+    for end in 0..bytes.len() {
+        let prefix = &bytes.as_slice()[0..end];
+        check_eq(outcome(prefix), (11, number_start(prefix))).note("a proper prefix")?;
+    }
+    Ok(())
+}
+
+#[test]
 fn totals_are_refused_at_the_count_that_passes_them(rt: LibcRuntime) -> Result<(), Fail> {
-    let full = with_totals(rt.alloc(), 0, 0)?;
+    let full = with_tail(rt.alloc(), &[0, 0, 0])?;
     check_eq(outcome(full.as_slice()), (0, 0)).note("64 triples and 64 nodes")?;
-    let triples = with_totals(rt.alloc(), 1, 0)?;
-    check_eq(outcome(triples.as_slice()), (13, 333)).note("a triple more")?;
-    let nodes = with_totals(rt.alloc(), 0, 1)?;
-    check_eq(outcome(nodes.as_slice()), (13, 335)).note("a node more")
+    let required = with_tail(rt.alloc(), &[1, 2, 2, 2, 0, 0])?;
+    check_eq(outcome(required.as_slice()), (13, 333)).note("a required triple more")?;
+    let group = with_tail(rt.alloc(), &[0, 0, 1, 3, 0])?;
+    check_eq(outcome(group.as_slice()), (13, 335)).note("a node of the group filter more")?;
+    let block = with_tail(rt.alloc(), &[0, 1, 1, 2, 2, 2, 0, 0])?;
+    check_eq(outcome(block.as_slice()), (13, 335)).note("a triple of a block more")
+}
+
+#[test]
+fn a_block_filter_counts_towards_the_nodes_in_all(rt: LibcRuntime) -> Result<(), Fail> {
+    let mut bytes = Vec::new(rt.alloc());
+    bytes.push(5)?;
+    for _ in 0..4 {
+        bytes.extend_from_slice(&[0, 0, 16])?;
+        repeat(&mut bytes, &[3, 0], 16)?;
+    }
+    bytes.extend_from_slice(&[0, 1, 1, 2, 2, 2, 1, 3, 0, 0])?;
+    check_eq(outcome(bytes.as_slice()), (13, 147))
 }

@@ -38,7 +38,7 @@ fn one_damaged_byte_gives_the_one_defined_refusal() -> Result<(), Fail> {
 #[test]
 fn every_proper_prefix_of_a_query_ends_early() -> Result<(), Fail> {
     for end in 0..GOOD.len() {
-        check_eq(outcome(&GOOD[0..end]).0, 11).note("a proper prefix")?;
+        check_eq(outcome(&GOOD[0..end]), (11, end)).note("a proper prefix")?;
     }
     check_eq(outcome(&GOOD), (0, 0))
 }
