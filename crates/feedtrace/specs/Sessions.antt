@@ -31,7 +31,8 @@ use Rattle.feedtrace.specs.declared.session.Session.{Session}
 abbrev pub current : Session → Option (List Group)
 current s = mapped shape (s .query)
 
--- these bytes were asked to be read: they are a query, which is counted and current now; or they are refused; or there
+-- these bytes were asked to be read: they are a query, which is counted and current now; or they are
+-- refused; or there
 -- is no memory for it; then the session is as it was
 abbrev pub Took : List ℕ → Session → Answer → Session → Type 0
 Took bytes s (Counts c) t =
@@ -43,7 +44,8 @@ Took bytes s Nothing t = ⊥
 Took bytes s (Bytes v) t = ⊥
 Took bytes s Shown t = ⊥
 
--- the current query was asked to be written into a buffer of n bytes: its bytes; or the refusal of a short buffer; or
+-- the current query was asked to be written into a buffer of n bytes: its bytes; or the refusal of a short
+-- buffer; or
 -- there is no current query, or no memory for the buffer
 abbrev pub Wrote : ℕ → Session → Answer → Type 0
 Wrote n s (Bytes v) =

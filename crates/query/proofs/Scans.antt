@@ -1,5 +1,6 @@
 -- What has come in while the items of a list are read. Assumes nothing.
---     Sofar ..    so many items came in, the rest of the list gives the answer, and the builder holds the draft with them
+--     Sofar ..    so many items came in, the rest of the list gives the answer, and the builder holds the
+--                 draft with them
 use mathlib.Core.List.{List, [], _∷_, _++_}
 use mathlib.Core.Path.{_≡_, refl, sym, ap, subst, _∙_}
 use Prim.Native.Nat.{ℕ, suc, _+_, _-_, _<_, _≤_}

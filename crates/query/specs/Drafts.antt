@@ -12,7 +12,8 @@ use Rattle.query.specs.declared.step.Step.{Step}
 use Rattle.query.specs.declared.step.Step.the-variants.{Triple, Node, EndRequired, EndBlock, EndAlternative}
 use Rattle.query.specs.Parts.{Part, Group, part-of, group-of}
 
--- what has come in: alternatives, then required triples and blocks, then the triples and nodes of the part in work
+-- what has come in: alternatives, then required triples and blocks, then the triples and nodes of the part
+-- in work
 pub record Draft : Type 0 where
   pub done : List Group
   pub required : List TriplePattern

@@ -1,5 +1,6 @@
 -- What a reader makes of bytes: the query, or the first number that is wrong. Assumes nothing.
---     room used       how many triples of a part, or nodes of a filter, may come where so many were read before
+--     room used       how many triples of a part, or nodes of a filter, may come where so many were read
+--                     before
 --     Used            how many triples and filter nodes were read before
 --     verdict bytes   what the whole byte string is
 use mathlib.Core.Bool.{cond}

@@ -1,5 +1,6 @@
 -- Which queries there are, by their parts alone. Assumes nothing.
---     lawful q     the query whose alternatives are q keeps every limit, and its blocks share variables only with
+--     lawful q     the query whose alternatives are q keeps every limit, and its blocks share variables
+--                  only with
 --                  the required triples
 use mathlib.Core.Bool.{Bool, true, false, not, _&&_, _||_}
 use mathlib.Core.List.{List, [], _∷_}

@@ -1,5 +1,6 @@
 -- How bytes are read: readers, and how they are put together. Assumes nothing.
---     Reader A        from a place, and the bytes from there on, to an A, with the place and the bytes behind it
+--     Reader A        from a place, and the bytes from there on, to an A, with the place and the bytes
+--                     behind it
 --     role r f        one number; f says what it stands for, and r refuses it where f gives none
 --     both p q c      first p, then q, put together by c
 --     times n item    n items, one behind the other
@@ -15,7 +16,8 @@ use Rattle.refusal.specs.declared.refusal.Refusal.the-variants.{EndsEarly, Malf
 use Rattle.query.specs.Codes.{when}
 use Rattle.query.specs.Limits.{within}
 
--- a value was taken, with the place behind it and the bytes from there on; or a number was refused at its place
+-- a value was taken, with the place behind it and the bytes from there on; or a number was refused at its
+-- place
 pub data Read (A : Type 0) : Type 0 where
   took : A → ℕ → List ℕ → Read A
   refused : Refusal → ℕ → Read A

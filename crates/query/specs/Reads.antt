@@ -1,6 +1,7 @@
 -- What reading a byte string answers. Assumes nothing.
 --     Unwritten bytes    no lawful query has these bytes
---     Barred bytes e     no byte string that agrees with bytes up to the end of the number refused has a lawful query's bytes
+--     Barred bytes e     no byte string that agrees with bytes up to the end of the number refused has a
+--                        lawful query's bytes
 use mathlib.Core.Bool.{true}
 use mathlib.Core.List.{List}
 use mathlib.Core.Path.{_≡_}
@@ -44,7 +45,8 @@ Answered bytes (Ok q) = verdict bytes ≡ accepted (shape q)
 Answered bytes (Err (Refused e)) = verdict bytes ≡ rejected (e .refusal) (e .place)
 Answered bytes (Err Memory) = (q : List Group) × (verdict bytes ≡ accepted q)
 
--- the lawful query whose writing the bytes are; or they are the writing of none; or of one, and there is no memory for it
+-- the lawful query whose writing the bytes are; or they are the writing of none; or of one, and there is no
+-- memory for it
 abbrev pub Recovered : List ℕ → Result Query ReadError → Type 0
 Recovered bytes (Ok q) = (lawful (shape q) ≡ true) × (bytes ≡ bytes-of (shape q))
 Recovered bytes (Err (Refused e)) = Unwritten bytes × Barred bytes e

@@ -21,7 +21,8 @@ pub(crate) fn shares(required: &VariableSet, blocks: &[VariableSet]) -> bool
         (Clash (now (required .entry)) (now (blocks .entry)) → ⊥) ⌝ }
 {
     let mut found = false;
-    // Kept while nothing is found: no pair of blocks passed, and no variable passed of the pair in hand, clashes.
+    // Kept while nothing is found: no pair of blocks passed, and no variable passed of the pair in hand,
+    // clashes.
     'pairs: for first in 0..blocks.len() {
         for second in first + 1..blocks.len() {
             for v in 0..VARIABLES {

@@ -15,7 +15,8 @@ pub fn one_writing_each() -> u8
     0
 }
 
-/// After a refusal of one number, every byte string that agrees up to the end of that number is refused alike.
+/// After a refusal of one number, every byte string that agrees up to the end of that number is refused
+/// alike.
 pub fn refused_for_good() -> u8
     ensures { λ _. ⌜ Refused-for-good ⌝ }
 {
