@@ -32,21 +32,19 @@ abbrev pub current : Session → Option (List Group)
 current s = mapped shape (s .query)
 
 -- these bytes were asked to be read: they are a query, which is counted and current now; or they are
--- refused; or there
--- is no memory for it; then the session is as it was
+-- refused, or there is no memory for it, and then the session is as it was
 abbrev pub Took : List ℕ → Session → Answer → Session → Type 0
 Took bytes s (Counts c) t =
     (q : List Group) × ((verdict bytes ≡ accepted q) × ((c ≡ counts-of q) × (current t ≡ Some q)))
 Took bytes s (Refused e) t = (verdict bytes ≡ rejected (e .refusal) (e .place)) × (t ≡ s)
-Took bytes s (Error e) t = (e ≡ expected.Memory)
-    × (((q : List Group) × (verdict bytes ≡ accepted q)) × (t ≡ s))
+Took bytes s (Error e) t =
+    (e ≡ expected.Memory) × (((q : List Group) × (verdict bytes ≡ accepted q)) × (t ≡ s))
 Took bytes s Nothing t = ⊥
 Took bytes s (Bytes v) t = ⊥
 Took bytes s Shown t = ⊥
 
 -- the current query was asked to be written into a buffer of n bytes: its bytes; or the refusal of a short
--- buffer; or
--- there is no current query, or no memory for the buffer
+-- buffer; or there is no current query, or no memory for the buffer
 abbrev pub Wrote : ℕ → Session → Answer → Type 0
 Wrote n s (Bytes v) =
     (q : List Group) × ((current s ≡ Some q) × ((length (bytes-of q) ≤ n) × (vec-items v ≡ bytes-of q)))
@@ -54,8 +52,8 @@ Wrote n s (Refused e) =
     (q : List Group) × ((current s ≡ Some q)
     × ((n < length (bytes-of q)) × (e ≡ record { refusal = BufferShort; place = 0 })))
 Wrote n s (Error e) =
-    ((e ≡ expected.Query) × (current s ≡ None)) ⊎ ((e ≡ expected.Memory)
-    × ((q : List Group) × (current s ≡ Some q)))
+    ((e ≡ expected.Query) × (current s ≡ None))
+    ⊎ ((e ≡ expected.Memory) × ((q : List Group) × (current s ≡ Some q)))
 Wrote n s Nothing = ⊥
 Wrote n s (Counts c) = ⊥
 Wrote n s Shown = ⊥

@@ -3,7 +3,7 @@
 use mathlib.Core.Bool.{true, not, _&&_}
 use mathlib.Core.List.{List, map}
 use mathlib.Core.Path.{_≡_}
-use Prim.Native.Nat.{ℕ, _+_, _≤_, _<_}
+use Prim.Native.Nat.{ℕ, _+_, _*_, _≤_, _<_}
 use native.Mathlib.Omega.{arith}
 use lib.Dec.{leb}
 use lib.ListN.{length, drop, getD}
@@ -19,7 +19,7 @@ use Rattle.query.proofs.Lawful.{total-next, total-map, total-most}
 
 -- the sums over all alternatives
 pub record Sums (xs : List Alternative) : Type 0 where
-  pub blocks : total (λ a. length (group-of a .blocks)) xs ≤ 32
+  pub blocks : total (λ a. length (group-of a .blocks)) xs ≤ most-blocks * most-alternatives
   pub triples : total (λ a. triples-in (group-of a)) xs ≤ most-in-all
   pub nodes : total (λ a. nodes-in (group-of a)) xs ≤ most-in-all
 

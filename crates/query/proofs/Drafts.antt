@@ -40,8 +40,7 @@ triple-in d ts t =
       required = d .required;
       blocks = d .blocks;
       triples = l;
-      nodes
-          = d .nodes;
+      nodes = d .nodes;
     }) (append-assoc (d .triples) ts (t ∷ []))
 
 pub triple-in-none : (d : Draft) → with-triples-in d [] ≡ d
@@ -51,8 +50,7 @@ triple-in-none d =
       required = d .required;
       blocks = d .blocks;
       triples = l;
-      nodes
-          = d .nodes;
+      nodes = d .nodes;
     }) (append-nil (d .triples))
 
 pub node-in : (d : Draft) (ns : List Node) (n : Node) → stepped (with-nodes-in d ns) (step.Node n)
@@ -63,8 +61,7 @@ node-in d ns n =
       required = d .required;
       blocks = d .blocks;
       triples = d .triples;
-      nodes
-          = l;
+      nodes = l;
     }) (append-assoc (d .nodes) ns (n ∷ []))
 
 pub node-in-none : (d : Draft) → with-nodes-in d [] ≡ d
@@ -74,8 +71,7 @@ node-in-none d =
       required = d .required;
       blocks = d .blocks;
       triples = d .triples;
-      nodes
-          = l;
+      nodes = l;
     }) (append-nil (d .nodes))
 
 -- Holds

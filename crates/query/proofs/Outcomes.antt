@@ -42,13 +42,13 @@ checked-scanned bytes (Err e) b h = h
 pub recognised-checked : {T : Type 0} (bytes : List ℕ) (r : Result T Rejection) → Checked bytes r
     → Recognised bytes r
 recognised-checked bytes (Ok x) (q, v) = let w = accepted-is-written bytes q v in (q, (w .0, w .1))
-recognised-checked bytes (Err e) h
-    = (unwritten-rejected bytes (e .refusal) (e .place) h, barred-rejected bytes e h)
+recognised-checked bytes (Err e) h =
+    (unwritten-rejected bytes (e .refusal) (e .place) h, barred-rejected bytes e h)
 
 -- read
 
 pub recovered-answered : (bytes : List ℕ) (r : Result Query ReadError) → Answered bytes r → Recovered bytes r
 recovered-answered bytes (Ok q) h = let w = accepted-is-written bytes (shape q) h in (w .0, w .1)
-recovered-answered bytes (Err (Refused e)) h
-    = (unwritten-rejected bytes (e .refusal) (e .place) h, barred-rejected bytes e h)
+recovered-answered bytes (Err (Refused e)) h =
+    (unwritten-rejected bytes (e .refusal) (e .place) h, barred-rejected bytes e h)
 recovered-answered bytes (Err Memory) (q, v) = let w = accepted-is-written bytes q v in (q, (w .0, w .1))

@@ -18,8 +18,7 @@ use Rattle.query.specs.Variables.{Gathers}
 use Rattle.query.specs.Grammar.{Used}
 use Rattle.query.specs.Drafts.{Draft, Keeps, draft-of}
 
--- the builder knows the variables of each part in work, and whether blocks shared one, and keeps the draft
--- if anything
+-- b knows the variables of each part of d in work and whether blocks shared one, and keeps d if anything
 pub record Tracks (b : Builder) (d : Draft) : Type 0 where
   pub part : Gathers (b .part) (d .triples)
   pub required : Gathers (b .required) (d .required)

@@ -12,8 +12,7 @@ use Rattle.query.specs.declared.step.Step.{Step}
 use Rattle.query.specs.declared.step.Step.the-variants.{Triple, Node, EndRequired, EndBlock, EndAlternative}
 use Rattle.query.specs.Parts.{Part, Group, part-of, group-of}
 
--- what has come in: alternatives, then required triples and blocks, then the triples and nodes of the part
--- in work
+-- what has come in: alternatives, required triples and blocks, and the triples and nodes of the part in work
 pub record Draft : Type 0 where
   pub done : List Group
   pub required : List TriplePattern
@@ -23,32 +22,33 @@ pub record Draft : Type 0 where
 
 -- the draft with these triples more in the part in work
 abbrev pub with-triples-in : Draft → List TriplePattern → Draft
-with-triples-in d ts =
-    record {
-      done = d .done;
-      required = d .required;
-      blocks = d .blocks;
-      triples = d .triples ++ ts;
-      nodes
-          = d .nodes;
-    }
+with-triples-in d ts = record {
+  done = d .done;
+  required = d .required;
+  blocks = d .blocks;
+  triples = d .triples ++ ts;
+  nodes = d .nodes;
+}
 
 -- the draft with these nodes more in the filter in work
 abbrev pub with-nodes-in : Draft → List node.Node → Draft
-with-nodes-in d ns =
-    record {
-      done = d .done;
-      required = d .required;
-      blocks = d .blocks;
-      triples = d .triples;
-      nodes
-          = d .nodes ++ ns;
-    }
+with-nodes-in d ns = record {
+  done = d .done;
+  required = d .required;
+  blocks = d .blocks;
+  triples = d .triples;
+  nodes = d .nodes ++ ns;
+}
 
 -- the draft in which these alternatives, required triples and blocks are finished, and no part is in work
 abbrev pub finished : List Group → List TriplePattern → List Part → Draft
-finished done required blocks = record
-    { done = done; required = required; blocks = blocks; triples = []; nodes = [] }
+finished done required blocks = record {
+  done = done;
+  required = required;
+  blocks = blocks;
+  triples = [];
+  nodes = [];
+}
 
 -- nothing has come in
 abbrev pub fresh : Draft
@@ -64,8 +64,13 @@ with-node d n = with-nodes-in d (n ∷ [])
 
 -- the triples in work are the required ones
 abbrev pub required-ended : Draft → Draft
-required-ended d = record
-    { done = d .done; required = d .triples; blocks = d .blocks; triples = []; nodes = d .nodes }
+required-ended d = record {
+  done = d .done;
+  required = d .triples;
+  blocks = d .blocks;
+  triples = [];
+  nodes = d .nodes;
+}
 
 -- the triples and nodes in work are a block
 abbrev pub block-ended : Draft → Draft

@@ -16,8 +16,7 @@ use Rattle.refusal.specs.declared.refusal.Refusal.the-variants.{EndsEarly, Malf
 use Rattle.query.specs.Codes.{when}
 use Rattle.query.specs.Limits.{within}
 
--- a value was taken, with the place behind it and the bytes from there on; or a number was refused at its
--- place
+-- a value was taken, with the place and the bytes behind it; or a number was refused at its place
 pub data Read (A : Type 0) : Type 0 where
   took : A → ℕ → List ℕ → Read A
   refused : Refusal → ℕ → Read A

@@ -45,8 +45,7 @@ Answered bytes (Ok q) = verdict bytes ≡ accepted (shape q)
 Answered bytes (Err (Refused e)) = verdict bytes ≡ rejected (e .refusal) (e .place)
 Answered bytes (Err Memory) = (q : List Group) × (verdict bytes ≡ accepted q)
 
--- the lawful query whose writing the bytes are; or they are the writing of none; or of one, and there is no
--- memory for it
+-- the lawful query whose writing the bytes are; or they are of none; or of one, and memory is wanting
 abbrev pub Recovered : List ℕ → Result Query ReadError → Type 0
 Recovered bytes (Ok q) = (lawful (shape q) ≡ true) × (bytes ≡ bytes-of (shape q))
 Recovered bytes (Err (Refused e)) = Unwritten bytes × Barred bytes e

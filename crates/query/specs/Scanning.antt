@@ -39,8 +39,7 @@ pub record Holds (b : Builder) (d : Draft) (u : Used) : Type 0 where
   pub tracks : Tracks b d
   pub used : used-of b ≡ u
 
--- From the builder b and the cursor c to the builder b′ and the cursor c′, with the result r: a part was
--- read.
+-- From the builder b and the cursor c to b′ and c′, with the result r, a part was read.
 
 -- at least low triples
 abbrev pub Took-triples : {T : Type 0} → ℕ → Builder → Cursor → Result T Rejection → Builder → Cursor → Type 0

@@ -27,10 +27,9 @@ places-lawful (And a b) = true
 places-lawful (Or a b) = true
 
 -- the bytes stand at the front of the buffer, their length answered, and what is behind them is as it was;
--- or the buffer
--- is too short for them, which is refused with no place, and it is as it was
+-- or the buffer is too short for them, which is refused with no place, and it is as it was
 abbrev pub Written : List ℕ → List ℕ → Result ℕ Rejection → List ℕ → Type 0
-Written bytes before (Ok n) after = (length bytes ≤ length before) × (n ≡ length bytes)
-    × (after ≡ placed before 0 bytes)
-Written bytes before (Err e) after = (length before < length bytes)
-    × (e ≡ record { refusal = BufferShort; place = 0 }) × (after ≡ before)
+Written bytes before (Ok n) after =
+    (length bytes ≤ length before) × (n ≡ length bytes) × (after ≡ placed before 0 bytes)
+Written bytes before (Err e) after =
+    (length before < length bytes) × (e ≡ record { refusal = BufferShort; place = 0 }) × (after ≡ before)

@@ -87,7 +87,8 @@ impl<'a> Cursor<'a> {
 
     /// A node that node number `node` names.
     pub(crate) fn lower(&mut self, node: u32) -> Result<u32, Rejection>
-        ensures answer { λ r. ⌜ Reads (ahead (grammar.lower node) (now (self .entry))) r (now (self .exit)) ⌝ }
+        ensures answer { λ r. ⌜ Reads (ahead (grammar.lower node) (now (self .entry))) r
+            (now (self .exit)) ⌝ }
         ensures same { λ _. ⌜ now (self .exit) .bytes ≡ now (self .entry) .bytes ⌝ }
     {
         let place = self.at;

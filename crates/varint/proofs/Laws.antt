@@ -11,14 +11,14 @@ use lib.ListN.{length, take, drop}
 use Rattle.std.proofs.shelf.Lists.{append-nil, take-at, take-append-drop, length-take-le}
 use Rattle.std.proofs.shelf.Tests.{and-from, and-parts, cases-lt, cond-both, cond-true, cond-false}
 use Rattle.std.proofs.shelf.Tests.{eq-eqb, eqb-true, le-leb, leb-true, lt-ltb, le-ltb}
-use Rattle.varint.specs.Encode.{encode, largest}
+use Rattle.varint.specs.Encode.{most-bytes, encode, largest}
 use Rattle.varint.specs.Decode.{ends-early, malformed, decoded, decode}
 use Rattle.varint.specs.Decode.{one-more, span, value, same, judged, spanned}
 use Rattle.varint.proofs.Groups.{length-groups, encode-each}
 
 -- length
 
-pub length-encode : (n : ℕ) → (1 ≤ length (encode n)) × (length (encode n) ≤ 5)
+pub length-encode : (n : ℕ) → (1 ≤ length (encode n)) × (length (encode n) ≤ most-bytes)
 unfolding encode
 length-encode n = length-groups 4 n
 

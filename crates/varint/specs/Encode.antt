@@ -2,6 +2,7 @@
 --     groups k n    n in groups of seven bits, with at most k bytes before the last
 --     encode n      the bytes of n, a number of 32 bits
 --     largest       the largest number that is written
+--     most-bytes    the most bytes that a number takes
 use mathlib.Core.Bool.{cond}
 use mathlib.Core.List.{List, [], _∷_}
 use Prim.Native.Nat.{ℕ, zero, suc, _+_, _/_, _%_}
@@ -10,6 +11,10 @@ use lib.Dec.{ltb}
 -- the largest number that is written
 abbrev pub largest : ℕ
 largest = 4294967295
+
+-- the most bytes that a number takes
+abbrev pub most-bytes : ℕ
+most-bytes = 5
 
 -- n in groups of seven bits: a group with more behind it is written with its top bit set
 abbrev pub groups : ℕ → ℕ → List ℕ

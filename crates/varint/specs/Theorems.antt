@@ -3,7 +3,7 @@ use mathlib.Core.List.{List, _++_}
 use mathlib.Core.Path.{_≡_}
 use Prim.Native.Nat.{ℕ, _≤_}
 use lib.ListN.{length, take}
-use Rattle.varint.specs.Encode.{encode, largest}
+use Rattle.varint.specs.Encode.{encode, largest, most-bytes}
 use Rattle.varint.specs.Decode.{decode, decoded}
 
 -- reading what was written gives the number and its length, whatever stands behind
@@ -19,4 +19,5 @@ Only-one-form = (bytes : List ℕ) (n k : ℕ) → decode bytes ≡ decoded n k
 -- every number of 32 bits is written, in one to five bytes
 abbrev pub Every-number-written : Type 0
 Every-number-written = (n : ℕ) → n ≤ largest
-    → (1 ≤ length (encode n)) × (length (encode n) ≤ 5) × (decode (encode n) ≡ decoded n (length (encode n)))
+    → (1 ≤ length (encode n)) × (length (encode n) ≤ most-bytes)
+    × (decode (encode n) ≡ decoded n (length (encode n)))

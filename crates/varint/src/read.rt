@@ -5,6 +5,7 @@ ghost use lib.ListN.{drop, length, take};
 ghost use Rattle.std.specs.Options.{Cases};
 ghost use Rattle.varint.specs.Calls.{answer};
 ghost use Rattle.varint.specs.Decode.{decode, span, value};
+ghost use Rattle.varint.specs.Encode.{most-bytes};
 ghost use Rattle.varint.specs.Ending.{Ends, padded};
 use crate::number::GROUP;
 use crate::number::LARGEST;
@@ -61,7 +62,7 @@ fn is_padded(bytes: &[u8], at: usize, last: usize) -> bool
 
 /// The number that the groups from `at` to `last` make, at most five of them.
 fn value_of(bytes: &[u8], at: usize, last: usize) -> u64
-    requires { ⌜ at ≤ last ⌝ ∗ ⌜ last < length (now bytes) ⌝ ∗ ⌜ last < at + 5 ⌝ }
+    requires { ⌜ at ≤ last ⌝ ∗ ⌜ last < length (now bytes) ⌝ ∗ ⌜ last < at + most-bytes ⌝ }
     ensures { λ r. ⌜ r ≡ value (take (last + 1 - at) (drop at (now (bytes .entry)))) ⌝ }
 {
     let mut sum = 0;

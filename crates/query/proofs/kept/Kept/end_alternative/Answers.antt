@@ -16,8 +16,7 @@ returns c h =
     ≡ record {
       required = vec-items (k .required);
       blocks = map part-of (vec-items (k .blocks));
-      filter
-          = vec-items (k .nodes);
+      filter = vec-items (k .nodes);
     } =
     ap (λ v. group-of (record { required = v; blocks = blocks .result; filter = filter .result }))
     (required .ensures .value)

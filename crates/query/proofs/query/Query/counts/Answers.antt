@@ -1,14 +1,14 @@
 use mathlib.Core.Bool.{true}
 use mathlib.Core.List.{map}
 use mathlib.Core.Path.{_≡_, sym, ap, subst, _∙_}
-use Prim.Native.Nat.{ℕ, _+_, _≤_}
+use Prim.Native.Nat.{ℕ, _+_, _*_, _≤_}
 use native.Mathlib.Omega.{arith}
 use lib.ListN.{length}
 use Rattle.std.proofs.shelf.Lists.{length-map}
 use Rattle.std.specs.Of.Vec.{vec-items}
 use Rattle.query.specs.declared.inspect.Counts.{Counts}
 use Rattle.query.specs.Lawful.{total, triples-in, nodes-in, lawful}
-use Rattle.query.specs.Limits.{most-in-all}
+use Rattle.query.specs.Limits.{most-in-all, most-blocks, most-alternatives}
 use Rattle.query.specs.Parts.{part-of, group-of}
 use Rattle.query.proofs.Counts.{sums-lawful, count-next}
 use Rattle.query.proofs.Lawful.{total-next, total-end, total-map}
@@ -17,7 +17,8 @@ use Rattle.query.proofs.query.Query.counts.Needs.{After-as-slice, After-len-bl
 
 -- with the next alternative the counts are still within a query's limits
 record Room (c : After-as-slice) : Type 0 where
-  blocks : c .loop-alternative .blocks + length (group-of (c .alternative-item .result) .blocks) ≤ 32
+  blocks : c .loop-alternative .blocks + length (group-of (c .alternative-item .result) .blocks)
+      ≤ most-blocks * most-alternatives
   triples : c .loop-alternative .triples + triples-in (group-of (c .alternative-item .result)) ≤ most-in-all
   nodes : c .loop-alternative .nodes + nodes-in (group-of (c .alternative-item .result)) ≤ most-in-all
 
