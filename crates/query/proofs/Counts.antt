@@ -1,20 +1,19 @@
 -- How much a lawful query's alternatives hold at the most. Assumes nothing.
 --     Held ..     what is counted so far, with one alternative more, is no more than a query may hold
-use mathlib.Core.Bool.{true, not, _&&_}
+use mathlib.Core.Bool.{true, not}
 use mathlib.Core.List.{List, map}
 use mathlib.Core.Path.{_≡_}
 use Prim.Native.Nat.{ℕ, _+_, _*_, _≤_, _<_}
 use native.Mathlib.Omega.{arith}
-use lib.Dec.{leb}
 use lib.ListN.{length, drop, getD}
-use Rattle.std.proofs.shelf.Tests.{leb-true, and-parts}
+use Rattle.std.proofs.shelf.Tests.{and-parts}
 use Rattle.query.specs.declared.alternative.Alternative.{Alternative}
-use Rattle.query.specs.Limits.{within}
-use Rattle.query.specs.Lawful.{every, some, shares, total, triples-in, nodes-in, lawful-triples, lawful-part}
-use Rattle.query.specs.Lawful.{lawful-filter, lawful-group, limited, lawful}
+use Rattle.query.specs.Lawful.{some, shares, total, triples-in, nodes-in}
+use Rattle.query.specs.Lawful.{lawful-group, limited, lawful}
 use Rattle.query.specs.Limits.{most-blocks, most-alternatives}
 use Rattle.query.specs.Limits.{most-in-all}
 use Rattle.query.specs.Parts.{Group, group-of}
+use Rattle.query.proofs.Limits.{within-high, group-limits, query-limits}
 use Rattle.query.proofs.Lawful.{total-next, total-map, total-most}
 
 -- the sums over all alternatives
@@ -24,40 +23,26 @@ pub record Sums (xs : List Alternative) : Type 0 where
   pub nodes : total (λ a. nodes-in (group-of a)) xs ≤ most-in-all
 
 few-blocks : (g : Group) → lawful-group g ≡ true → length (g .blocks) ≤ most-blocks
-few-blocks g h =
-    let a = and-parts (lawful-triples 0 (g .required))
-    (within 0 most-blocks (length (g .blocks))
-    && (every lawful-part (g .blocks) && lawful-filter (g .filter))) h in
-    let b = and-parts (within 0 most-blocks (length (g .blocks))) (every lawful-part (g .blocks)
-    && lawful-filter (g .filter)) (a .1) in
-    leb-true (length (g .blocks)) most-blocks
-    (and-parts (leb 0 (length (g .blocks))) (leb (length (g .blocks)) most-blocks) (b .0) .1)
+few-blocks g h = within-high 0 most-blocks (length (g .blocks)) (group-limits g h .few)
 
 pub sums-lawful : (xs : List Alternative) → lawful (map group-of xs) ≡ true → Sums xs
 sums-lawful xs h =
     let gs = map group-of xs in
-    let a = and-parts (limited gs) (not (some shares gs)) h in
-    let b = and-parts (within 1 most-alternatives (length gs))
-    (every lawful-group gs && (leb (total triples-in gs) most-in-all && leb (total nodes-in gs) most-in-all))
-    (a .0) in
-    let c = and-parts (every lawful-group gs) (leb (total triples-in gs) most-in-all
-    && leb (total nodes-in gs) most-in-all) (b .1) in
-    let d = and-parts (leb (total triples-in gs) most-in-all) (leb (total nodes-in gs) most-in-all) (c .1) in
-    let many = leb-true (length gs) most-alternatives
-    (and-parts (leb 1 (length gs)) (leb (length gs) most-alternatives) (b .0) .1) in
+    let l = query-limits gs (and-parts (limited gs) (not (some shares gs)) h .0) in
+    let many = within-high 1 most-alternatives (length gs) (l .few) in
     record {
       blocks = omega (
         arith,
         many,
-        total-most (λ g. length (g .blocks)) most-blocks lawful-group gs few-blocks (c .0),
+        total-most (λ g. length (g .blocks)) most-blocks lawful-group gs few-blocks (l .groups),
         total-map group-of (λ g. length (g .blocks)) xs,
       );
       triples = omega (
         arith,
-        leb-true (total triples-in gs) most-in-all (d .0),
+        l .triples,
         total-map group-of triples-in xs,
       );
-      nodes = omega (arith, leb-true (total nodes-in gs) most-in-all (d .1), total-map group-of nodes-in xs);
+      nodes = omega (arith, l .nodes, total-map group-of nodes-in xs);
     }
 
 -- a count so far, with the next element, is no more than the sum

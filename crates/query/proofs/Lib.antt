@@ -1,5 +1,6 @@
 -- Read in this order.
 pub mod Lawful  -- laws of tests over lists
+pub mod Limits  -- what keeping a limit says
 pub mod Readers  -- laws of one number and what it stands for
 pub mod Numbers  -- a number read at a place
 pub mod Sequences  -- laws of parts read one behind the other

@@ -1,12 +1,11 @@
 -- The lists of the grammar, its blocks and alternatives, each with its writing. Assumes nothing.
-use mathlib.Core.Bool.{Bool, true, _&&_}
+use mathlib.Core.Bool.{Bool, true}
 use mathlib.Core.List.{List, [], _∷_, _++_}
 use mathlib.Core.Path.{_≡_, refl}
 use Prim.Native.Nat.{ℕ, _+_, _-_, _≤_}
 use native.Mathlib.Omega.{arith}
-use lib.Dec.{leb}
 use lib.ListN.{length}
-use Rattle.std.proofs.shelf.Tests.{leb-true, le-leb, and-parts, and-from}
+use Rattle.std.proofs.shelf.Tests.{le-leb, and-parts, and-from}
 use Rattle.varint.specs.Encode.{largest}
 use Rattle.query.specs.declared.node.Node.{Node}
 use Rattle.query.specs.declared.pattern.TriplePattern.{TriplePattern}
@@ -20,20 +19,10 @@ use Rattle.query.specs.Grammar.{triple, triples, node, filter, room, Used, blo
 use Rattle.query.specs.Readers.{both}
 use Rattle.query.specs.Grammar.{with-part, with-triples, with-group, unused, nodes-after, alternative}
 use Rattle.query.specs.Grammar.{alternatives}
+use Rattle.query.proofs.Limits.{within-from, within-low, within-high, group-limits, query-limits}
 use Rattle.query.proofs.Readers.{Codec, codec-like}
 use Rattle.query.proofs.Sequences.{Each, both-codec, series-codec}
 use Rattle.query.proofs.Codecs.{triple-codec, node-codec}
-
--- within
-
-within-from : (low high n : ℕ) → low ≤ n → n ≤ high → within low high n ≡ true
-within-from low high n l h = and-from (leb low n) (leb n high) (le-leb low n l) (le-leb n high h)
-
-within-low : (low high n : ℕ) → within low high n ≡ true → low ≤ n
-within-low low high n w = leb-true low n (and-parts (leb low n) (leb n high) w .0)
-
-within-high : (low high n : ℕ) → within low high n ≡ true → n ≤ high
-within-high low high n w = leb-true n high (and-parts (leb low n) (leb n high) w .1)
 
 -- triples
 
@@ -223,14 +212,9 @@ Group-parts u g =
 
 group-parts : (u : Used) (g : Group) → Group-ok u g → Group-parts u g
 group-parts u g h =
-    let a = and-parts (lawful-triples 0 (g .required))
-    (within 0 most-blocks (length (g .blocks))
-    && (every lawful-part (g .blocks) && lawful-filter (g .filter))) (h .0) in
-    let b = and-parts (within 0 most-blocks (length (g .blocks))) (every lawful-part (g .blocks)
-    && lawful-filter (g .filter)) (a .1) in
-    let c = and-parts (every lawful-part (g .blocks)) (lawful-filter (g .filter)) (b .1) in (
-      (a .0, omega (arith, h .1 .0)),
-      ((b .0, (c .0, (omega (arith, h .1 .0), omega (arith, h .1 .1)))), (c .1, omega (arith, h .1 .1))),
+    let l = group-limits g (h .0) in (
+      (l .required, omega (arith, h .1 .0)),
+      ((l .few, (l .blocks, (omega (arith, h .1 .0), omega (arith, h .1 .1)))), (l .filter, omega (arith, h .1 .1))),
     )
 
 group-from-parts : (u : Used) → Fits u → (g : Group) → Group-parts u g → Group-ok u g
@@ -265,19 +249,12 @@ groups-limited q h =
 
 limited-groups : (q : List Group) → limited q ≡ true → Groups-ok q
 limited-groups q h =
-    let a = and-parts (within 1 most-alternatives (length q))
-    (every lawful-group q && (leb (total triples-in q) most-in-all && leb (total nodes-in q) most-in-all))
-    h in
-    let b = and-parts (every lawful-group q) (leb (total triples-in q) most-in-all
-    && leb (total nodes-in q) most-in-all) (a .1) in
-    let c = and-parts (leb (total triples-in q) most-in-all) (leb (total nodes-in q) most-in-all) (b .1) in (
-      a .0,
+    let l = query-limits q h in (
+      l .few,
       (
         refl,
-        each-of-all lawful-group triples-in nodes-in unused q (b .0) (
-          omega (arith, leb-true (total triples-in q) most-in-all (c .0)),
-          omega (arith, leb-true (total nodes-in q) most-in-all (c .1)),
-        ),
+        each-of-all lawful-group triples-in nodes-in unused q (l .groups)
+            (omega (arith, l .triples), omega (arith, l .nodes)),
       ),
     )
 

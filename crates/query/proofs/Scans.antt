@@ -6,10 +6,8 @@ use mathlib.Core.Path.{_≡_, refl, sym, ap, subst, _∙_}
 use Prim.Native.Nat.{ℕ, suc, _+_, _-_, _<_, _≤_}
 use native.Mathlib.Nat.{add-zero}
 use native.Mathlib.Omega.{arith}
-use lib.Dec.{leb}
 use lib.ListN.{length, drop}
 use Rattle.std.proofs.shelf.Lists.{length-push}
-use Rattle.std.proofs.shelf.Tests.{leb-true, and-parts}
 use Rattle.std.specs.declared.result.Result.{Result}
 use Rattle.std.specs.declared.result.Result.the-variants.{Err}
 use Rattle.refusal.specs.declared.refusal.Refusal.{Refusal}
@@ -24,6 +22,7 @@ use Rattle.query.specs.Lawful.{total, triples-in, nodes-in}
 use Rattle.query.specs.Parts.{Part, Group}
 use Rattle.query.proofs.Lawful.{total-push}
 use Rattle.query.specs.Scanning.{ahead, Takes}
+use Rattle.query.proofs.Limits.{within-high}
 use Rattle.query.proofs.Sequences.{count-codec}
 use Rattle.query.proofs.Loops.{prefixed, prefixed-none, times-more, times-refused, times-done, series-took}
 use Rattle.query.proofs.Loops.{series-refused}
@@ -120,8 +119,8 @@ module _ {S A : Type 0} (item : S → Reader A) (step : S → A → S) (state : 
 pub count-high : (low high n : ℕ) (c : Cursor) (after : ℕ) (rest : List ℕ) → high ≤ largest
     → ahead (readers.count low high) c ≡ took n after rest → n ≤ high
 count-high low high n c after rest small e =
-    leb-true n high (and-parts (leb low n) (leb n high)
-    (count-codec low high small .only (c .at) (drop (c .at) (c .bytes .now)) n after rest e .0) .1)
+    within-high low high n
+    (count-codec low high small .only (c .at) (drop (c .at) (c .bytes .now)) n after rest e .0)
 
 -- Takes
 

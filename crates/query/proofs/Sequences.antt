@@ -6,10 +6,8 @@ use mathlib.Core.Logic.{⊎-elim}
 use mathlib.Core.Path.{_≡_, refl, sym, ap, subst, _∙_}
 use Prim.Native.Nat.{ℕ, zero, suc, _+_, _-_, _≤_}
 use native.Mathlib.Omega.{arith}
-use lib.Dec.{leb}
 use lib.ListN.{length, drop}
 use Rattle.std.proofs.shelf.Lists.{append-assoc, length-append, drop-at, drop-drop}
-use Rattle.std.proofs.shelf.Tests.{leb-true, and-parts}
 use Rattle.std.specs.Joined.{joined}
 use Rattle.varint.specs.Encode.{encode, largest}
 use Rattle.varint.specs.Decode.{span}
@@ -19,6 +17,7 @@ use Rattle.query.specs.Limits.{within}
 use Rattle.query.specs.Format.{counted}
 use Rattle.query.specs.Readers.{took, refused, Reader, next, one, both, times, count, series}
 use Rattle.query.specs.Theorems.{by-number}
+use Rattle.query.proofs.Limits.{within-high}
 use Rattle.query.proofs.Readers.{next-took, next-refused, Stops, Codec, tested-codec}
 
 -- one
@@ -262,7 +261,7 @@ pub count-codec : (low high : ℕ) → high ≤ largest
     → Codec (count low high) encode (λ n. within low high n ≡ true)
 count-codec low high h =
     tested-codec CountOutside (within low high)
-    (λ n w. omega (arith, leb-true n high (and-parts (leb low n) (leb n high) w .1)))
+    (λ n w. omega (arith, within-high low high n w))
 
 module _ {S A : Type 0} (item : S → Reader A) (step : S → A → S) (enc : A → List ℕ) (Ok : S → A → Type 0)
     (Good : ℕ → S → Type 0) (goes : (n : ℕ) (s : S) (a : A) → Good (suc n) s → Ok s a → Good n (step s a))
@@ -276,5 +275,5 @@ module _ {S A : Type 0} (item : S → Reader A) (step : S → A → S) (enc : A 
       encode (λ n. within low high n ≡ true) (count-codec low high small)
       (joined enc) (λ n xs. (length xs ≡ n) × Each Ok step s xs)
       (λ n w. times-codec item step enc Ok Good goes items n s
-      (good n (leb-true n high (and-parts (leb low n) (leb n high) w .1))))
+      (good n (within-high low high n w)))
       length (λ xs. xs) (λ xs. refl) (λ n xs h. (h .0, refl))

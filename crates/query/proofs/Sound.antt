@@ -1,14 +1,14 @@
 -- What a lawful query's lists have that writing them asks for. Assumes nothing.
 --     Writable ok xs     few enough to count in 32 bits, and each is ok
-use mathlib.Core.Bool.{Bool, true}
+use mathlib.Core.Bool.{Bool, true, _&&_}
 use mathlib.Core.List.{List, [], _∷_, _++_, map}
 use mathlib.Core.Path.{_≡_, refl, sym, ap, _∙_}
 use Prim.Native.Nat.{ℕ, _+_, _≤_}
 use native.Mathlib.Omega.{arith}
-use lib.Dec.{leb}
 use lib.ListN.{length}
 use Rattle.std.proofs.shelf.Lists.{length-map}
-use Rattle.std.proofs.shelf.Tests.{leb-true, and-parts}
+use Rattle.std.proofs.shelf.Tests.{and-parts}
+use Rattle.std.proofs.shelf.Ways.{decides-by-and}
 use Rattle.std.specs.Joined.{joined}
 use Rattle.std.specs.shelf.Lists.{All}
 use Rattle.varint.specs.Encode.{encode, largest}
@@ -20,6 +20,7 @@ use Rattle.query.specs.Format.{counted}
 use Rattle.query.specs.Lawful.{every, lawful-triple, lawful-triples, lawful-node, lawful-nodes, lawful-filter}
 use Rattle.query.specs.Limits.{most-in-part}
 use Rattle.query.specs.Writes.{places-lawful}
+use Rattle.query.proofs.Limits.{within-high}
 
 -- few enough to count in 32 bits, and each is ok
 abbrev pub Writable : {A : Type 0} → (A → Bool) → List A → Type 0
@@ -27,19 +28,17 @@ Writable ok xs = (length xs ≤ largest) × All (λ x. ok x ≡ true) xs
 
 -- every
 
-all-every : {A B : Type 0} (f : A → B) (ok : B → Bool) (xs : List A) → every ok (map f xs) ≡ true
-    → All (λ x. ok (f x) ≡ true) xs
-all-every f ok [] h = tt
-all-every f ok (x ∷ xs) h = let w = and-parts (ok (f x)) (every ok (map f xs)) h in
-    (w .0, all-every f ok xs (w .1))
+all-every : {A : Type 0} (ok : A → Bool) (xs : List A) → every ok xs ≡ true → All (λ x. ok x ≡ true) xs
+all-every ok xs h =
+    decides-by-and ok (λ x. ok x ≡ true) (every ok) (λ x. (λ e. e, λ e. e)) refl (λ _ _. refl) xs .0 h
 
-all-every-plain : {A : Type 0} (ok : A → Bool) (xs : List A) → every ok xs ≡ true → All (λ x. ok x ≡ true) xs
-all-every-plain ok [] h = tt
-all-every-plain ok (x ∷ xs) h = let w = and-parts (ok x) (every ok xs) h in
-    (w .0, all-every-plain ok xs (w .1))
+every-map : {A B : Type 0} (f : A → B) (ok : B → Bool) (xs : List A)
+    → every ok (map f xs) ≡ every (λ x. ok (f x)) xs
+every-map f ok [] = refl
+every-map f ok (x ∷ xs) = ap (λ b. ok (f x) && b) (every-map f ok xs)
 
 few : (low high n : ℕ) → high ≤ most-in-part → within low high n ≡ true → n ≤ largest
-few low high n s h = omega (arith, leb-true n high (and-parts (leb low n) (leb n high) h .1))
+few low high n s h = omega (arith, within-high low high n h)
 
 -- triples
 
@@ -47,7 +46,7 @@ pub triples-writable : (low : ℕ) (ts : List TriplePattern) → lawful-triples 
     → Writable lawful-triple ts
 triples-writable low ts h =
     let w = and-parts (within low most-in-part (length ts)) (every lawful-triple ts) h in
-    (few low most-in-part (length ts) (omega arith) (w .0), all-every-plain lawful-triple ts (w .1))
+    (few low most-in-part (length ts) (omega arith) (w .0), all-every lawful-triple ts (w .1))
 
 -- nodes
 
@@ -76,7 +75,7 @@ pub mapped-writable : {A B : Type 0} (f : A → B) (ok : B → Bool) (low high :
     ≤ most-in-part
     → within low high (length (map f xs)) ≡ true → every ok (map f xs) ≡ true → Writable (λ x. ok (f x)) xs
 mapped-writable f ok low high xs s h e =
-    (omega (arith, few low high (length (map f xs)) s h, length-map xs f), all-every f ok xs e)
+    (omega (arith, few low high (length (map f xs)) s h, length-map xs f), all-every (λ x. ok (f x)) xs (sym (every-map f ok xs) ∙ e))
 
 joined-map : {A B : Type 0} (f : A → B) (code : B → List ℕ) (xs : List A) → joined (λ x. code (f x)) xs
     ≡ joined code (map f xs)

@@ -1,17 +1,16 @@
-use mathlib.Core.Bool.{_&&_, not}
+use mathlib.Core.Bool.{not}
 use mathlib.Core.List.{map}
 use mathlib.Core.Path.{sym, ap, subst, _∙_}
 use native.Mathlib.Omega.{arith}
-use lib.Dec.{leb}
 use lib.ListN.{length}
 use Rattle.std.proofs.shelf.Tests.{and-parts}
 use Rattle.std.specs.Of.Vec.{vec-items}
-use Rattle.query.specs.Limits.{within}
 use Rattle.query.specs.Format.{group-bytes, counted}
-use Rattle.query.specs.Lawful.{every, lawful-group, limited, some, shares, total, triples-in, nodes-in}
-use Rattle.query.specs.Limits.{most-alternatives, most-in-all}
+use Rattle.query.specs.Lawful.{lawful-group, limited, some, shares}
+use Rattle.query.specs.Limits.{most-alternatives}
 use Rattle.query.specs.Parts.{group-of}
 use Rattle.query.specs.Writes.{Put}
+use Rattle.query.proofs.Limits.{query-limits}
 use Rattle.query.proofs.Sound.{Writable, mapped-writable, counted-map}
 use Rattle.query.proofs.query.Query.write.Needs as need
 
@@ -21,14 +20,9 @@ put-list-requires c κs =
     let xs = vec-items (q .alternatives) in
     let gs = map group-of xs in
     let is = sym (c .as-slice .ensures .value) in
-    let kept = and-parts (limited gs) (not (some shares gs)) (q .keeps) .0 in
-    let x = and-parts (within 1 most-alternatives (length gs))
-    (every lawful-group gs && (leb (total triples-in gs) most-in-all && leb (total nodes-in gs) most-in-all))
-    kept in
-    let y = and-parts (every lawful-group gs) (leb (total triples-in gs) most-in-all
-    && leb (total nodes-in gs) most-in-all) (x .1) in
+    let l = query-limits gs (and-parts (limited gs) (not (some shares gs)) (q .keeps) .0) in
     let w = subst (Writable (λ a. lawful-group (group-of a))) is
-    (mapped-writable group-of lawful-group 1 most-alternatives xs (omega arith) (x .0) (y .0)) in
+    (mapped-writable group-of lawful-group 1 most-alternatives xs (omega arith) (l .few) (l .groups)) in
     let same = ap (counted (λ a. group-bytes (group-of a))) (c .as-slice .ensures .value)
     ∙ counted-map group-of group-bytes xs in
     record {

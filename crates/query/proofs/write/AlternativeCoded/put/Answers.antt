@@ -1,37 +1,19 @@
-use mathlib.Core.Bool.{true, _&&_}
 use mathlib.Core.List.{_++_, map}
-use mathlib.Core.Path.{_≡_, sym, ap, subst, _∙_}
+use mathlib.Core.Path.{sym, ap, subst, _∙_}
 use Prim.Native.Nat.{_+_, _≤_}
 use native.Mathlib.Omega.{arith}
 use lib.ListN.{length}
-use Rattle.std.proofs.shelf.Tests.{and-parts}
 use Rattle.std.specs.Of.Vec.{vec-items}
-use Rattle.query.specs.declared.alternative.Alternative.{Alternative}
-use Rattle.query.specs.Limits.{within}
 use Rattle.query.specs.Format.{triple-bytes, node-bytes, part-bytes, counted}
-use Rattle.query.specs.Lawful.{every, lawful-triple, lawful-triples, lawful-part, lawful-filter, lawful-group}
+use Rattle.query.specs.Lawful.{lawful-triple, lawful-part}
 use Rattle.query.specs.Limits.{most-blocks}
 use Rattle.query.specs.Parts.{part-of, group-of}
 use Rattle.query.specs.Writes.{Put, places-lawful}
+use Rattle.query.proofs.Limits.{group-limits}
 use Rattle.query.proofs.Sound.{Writable, triples-writable, filter-writable, mapped-writable, counted-map}
 use Rattle.query.proofs.Writes.{room-first, room-second, put-append}
 use Rattle.query.proofs.write.AlternativeCoded.put.Needs as need
 use Rattle.query.proofs.write.AlternativeCoded.put.Needs.{After-put-list-blocks, After-put-list-filter}
-
--- the limits of an alternative, each by itself
-limits : (a : Alternative) → lawful-group (group-of a) ≡ true
-    → (lawful-triples 0 (vec-items (a .required)) ≡ true)
-    × (within 0 most-blocks (length (map part-of (vec-items (a .blocks)))) ≡ true)
-    × (every lawful-part (map part-of (vec-items (a .blocks))) ≡ true)
-    × (lawful-filter (vec-items (a .filter)) ≡ true)
-limits a h =
-    let bs = map part-of (vec-items (a .blocks)) in
-    let x = and-parts (lawful-triples 0 (vec-items (a .required)))
-    (within 0 most-blocks (length bs) && (every lawful-part bs && lawful-filter (vec-items (a .filter)))) h in
-    let y = and-parts (within 0 most-blocks (length bs)) (every lawful-part bs
-    && lawful-filter (vec-items (a .filter))) (x .1) in
-    let z = and-parts (every lawful-part bs) (lawful-filter (vec-items (a .filter))) (y .1) in
-    (x .0, y .0, z .0, z .1)
 
 -- the required triples were written
 wrote-required : (c : After-put-list-blocks)
@@ -72,7 +54,7 @@ put-list-blocks-requires c κs =
     let a = c .args .self .now in
     let ts = vec-items (a .required) in
     let is = sym (c .as-slice .ensures .value) in
-    let w = subst (Writable lawful-triple) is (triples-writable 0 ts (limits a (c .pre .sound) .0)) in
+    let w = subst (Writable lawful-triple) is (triples-writable 0 ts (group-limits (group-of a) (c .pre .sound) .required)) in
     record {
       few = w .0;
       sound = w .1;
@@ -87,10 +69,10 @@ pub put-list-filter-requires : need.put-list-filter-requires
 put-list-filter-requires c κs =
     let a = c .args .self .now in
     let bs = vec-items (a .blocks) in
-    let l = limits a (c .pre .sound) in
+    let l = group-limits (group-of a) (c .pre .sound) in
     let is = sym (c .as-slice-2 .ensures .value) in
     let w = subst (Writable (λ b. lawful-part (part-of b))) is
-    (mapped-writable part-of lawful-part 0 most-blocks bs (omega arith) (l .1) (l .2)) in
+    (mapped-writable part-of lawful-part 0 most-blocks bs (omega arith) (l .few) (l .blocks)) in
     let fits = room-first (counted part-bytes (map part-of bs)) (counted node-bytes (vec-items (a .filter)))
     _ _
     (room-behind (need.at·put-list-filter-requires c .After-put-list-blocks)) in
@@ -107,7 +89,7 @@ put-list-requires c κs =
     let a = c .args .self .now in
     let ns = vec-items (a .filter) in
     let is = sym (c .as-slice-3 .ensures .value) in
-    let w = subst (Writable places-lawful) is (filter-writable ns (limits a (c .pre .sound) .3)) in
+    let w = subst (Writable places-lawful) is (filter-writable ns (group-limits (group-of a) (c .pre .sound) .filter)) in
     record {
       few = w .0;
       sound = w .1;
