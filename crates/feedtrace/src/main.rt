@@ -1,4 +1,6 @@
 //! The console of the trace engine: a command a line, and an answer to each.
+#![tactic(auto)]
+
 mod answer;
 mod ask;
 mod book;

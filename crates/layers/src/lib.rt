@@ -1,4 +1,6 @@
 //! Stores over a store: one without some of its triples, one with the inverse of a property.
+#![tactic(auto)]
+
 pub mod inverse;
 pub mod inverse_store;
 mod inverting;

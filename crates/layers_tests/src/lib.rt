@@ -1,4 +1,6 @@
 //! Tests of layers over stores, as tables: what is expected comes from the rules, by hand.
+#![tactic(auto)]
+
 #[cfg(test)]
 mod agreeing;
 #[cfg(test)]

@@ -1,4 +1,6 @@
 //! A coded query: its types, its reader, its writer.
+#![tactic(auto)]
+
 pub mod alternative;
 pub mod block;
 mod build;

@@ -1,4 +1,6 @@
 //! Tests of coded queries, as tables: what each byte string is comes from the format, not from the reader.
+#![tactic(auto)]
+
 #[cfg(test)]
 mod cases;
 #[cfg(test)]

@@ -1,4 +1,6 @@
 //! Triples of term numbers, what a store of them means, and two kinds of store.
+#![tactic(auto)]
+
 pub mod ascent;
 mod directory;
 mod element;

@@ -1,4 +1,6 @@
 //! Tests of row stores and property stores, as tables: what is expected comes from the rules, by hand.
+#![tactic(auto)]
+
 #[cfg(test)]
 mod asking;
 #[cfg(test)]
