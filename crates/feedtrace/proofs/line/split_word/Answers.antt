@@ -3,12 +3,12 @@ use Rattle.std.proofs.Common.{ℕ, take, drop, ap, ◌∙◌, arith}
 use Rattle.feedtrace.proofs.Words.{length_word_le, take_word}
 use Rattle.feedtrace.proofs.line.split_word.Goals as goal
 
-pub split-at-requires : goal.split-at-requires
-split-at-requires c = omega (arith, length_word_le c.args.text.now)
+pub split_at-requires : goal.split_at-requires
+split_at-requires c = omega (arith, length_word_le c.args.text.now)
 
 pub returns : goal.returns
 returns c = record {
-  first = c.split-at.ensures.front ∙ ap (λ (n : ℕ). take n c.args.text.now) c.word-length.ensures
+  first = c.split_at.ensures.front ∙ ap (λ (n : ℕ). take n c.args.text.now) c.word_length.ensures
       ∙ take_word c.args.text.now;
-  rest = c.split-at.ensures.back ∙ ap (λ (n : ℕ). drop n c.args.text.now) c.word-length.ensures;
+  rest = c.split_at.ensures.back ∙ ap (λ (n : ℕ). drop n c.args.text.now) c.word_length.ensures;
 }

@@ -6,6 +6,6 @@ use Rattle.feedtrace.proofs.line.trim.Goals as goal
 
 pub returns : goal.returns
 returns c =
-    let cut = c.trim-ascii-end.ensures.value
-    in cut.1 ∙ sym (untailed_from cut.0 c.trim-start.result.now cut.3 cut.4 cut.5)
-    ∙ ap untailed c.trim-start.ensures
+    let cut = c.trim_ascii_end.ensures.value
+    in cut.1 ∙ sym (untailed_from cut.0 c.trim_start.result.now cut.3 cut.4 cut.5)
+    ∙ ap untailed c.trim_start.ensures

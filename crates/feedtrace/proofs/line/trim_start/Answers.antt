@@ -5,5 +5,5 @@ use Rattle.feedtrace.proofs.line.trim_start.Goals as goal
 
 pub returns : goal.returns
 returns c =
-    let cut = c.trim-ascii-start.ensures.value
+    let cut = c.trim_ascii_start.ensures.value
     in cut.1 ∙ sym (unindented_at cut.0 c.args.text.now cut.3 cut.4 (omega arith))

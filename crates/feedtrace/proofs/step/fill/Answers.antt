@@ -8,9 +8,9 @@ pub returns-in-Ok : goal.returns-in-Ok
 returns-in-Ok c =
     let bytes = bytes_of (shape c.args.query.now) in
     let wrote = c.in-Ok.ensures in
-    let made = c.in-ok-buffer.ensures.made in
+    let made = c.in_ok-buffer.ensures.made in
     let room : length bytes
-    ≤ c.in-ok-buffer.buffer.len = omega (arith, wrote.0, c.as-mut-slice.ensures.len) in (
+    ≤ c.in_ok-buffer.buffer.len = omega (arith, wrote.0, c.as_mut_slice.ensures.len) in (
       omega (arith, room, made),
       c.truncate.ensures.items
           ∙ cut_front bytes _ _ _ _ _ wrote.2 wrote.1 room,

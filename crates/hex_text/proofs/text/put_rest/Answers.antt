@@ -8,8 +8,8 @@ pub loop-byte-preserved : goal.loop-byte-preserved
 loop-byte-preserved g c plain =
     put_then g.W.Write.write_str_gives (spaced_more c.args.bytes.now c.loop-byte.byte-index (omega arith))
     (c.loop-byte.invariant plain)
-    (λ next. put_then g.W.Write.write_str_gives refl (c.in-ok-write-char.ensures.writes next refl)
-    (λ last. c.in-ok-put-byte.ensures last refl))
+    (λ next. put_then g.W.Write.write_str_gives refl (c.in_ok-write_char.ensures.writes next refl)
+    (λ last. c.in_ok-put_byte.ensures last refl))
 
 pub returns : goal.returns
 returns g c plain ok =

@@ -5,39 +5,39 @@ use Rattle.query.specs.Readers.{took}
 use Rattle.query.proofs.Verdicts.{verdict_refused, verdict_left, verdict_shared, verdict_accepted}
 use Rattle.query.proofs.scan.scan.Goals as goal
 
-pub returns-in-err-alternatives : goal.returns-in-err-alternatives
-returns-in-err-alternatives c h =
-    let p = err_from_is_err_and c.from-residual.result c.from-residual.ensures.1 in
-    let e = c.in-err-alternatives.field-0.0 in
+pub returns-in_err-alternatives : goal.returns-in_err-alternatives
+returns-in_err-alternatives c h =
+    let p = err_from_is_err_and c.from_residual.result c.from_residual.ensures.1 in
+    let e = c.in_err-alternatives.field-0.0 in
     subst (λ r. Scanned c.args.bytes.now r c.alternatives.new.builder) (sym (p.1 ∙ ap Err p.2))
     (verdict_refused c.args.bytes.now e.refusal e.place
-    (c.in-err-alternatives.ensures.answer h))
+    (c.in_err-alternatives.ensures.answer h))
 
-pub returns-then-place-bytes : goal.returns-then-place-bytes
-returns-then-place-bytes c h =
-    let (q, (read, tracks)) = c.in-ok-alternatives.ensures.answer h in
+pub returns-then-place_bytes : goal.returns-then-place_bytes
+returns-then-place_bytes c h =
+    let (q, (read, tracks)) = c.in_ok-alternatives.ensures.answer h in
     let at = c.alternatives.new.self.at in
     verdict_left c.args.bytes.now q at
     (read ∙ ap (λ b. took q at (drop at b.now)) c.alternatives.ensures.same)
-    c.if-place-bytes.true
+    c.if-place_bytes.true
 
 pub returns-then-builder : goal.returns-then-builder
 returns-then-builder c h =
-    let (q, (read, tracks)) = c.in-ok-alternatives.ensures.answer h in
+    let (q, (read, tracks)) = c.in_ok-alternatives.ensures.answer h in
     let at = c.alternatives.new.self.at in
     verdict_shared c.args.bytes.now q at
     (read ∙ ap (λ b. took q at (drop at b.now)) c.alternatives.ensures.same)
-    c.if-place-bytes.false (sym tracks.shared ∙ c.if-builder.true)
+    c.if-place_bytes.false (sym tracks.shared ∙ c.if-builder.true)
 
 pub returns : goal.returns
 returns c h =
-    let (q, (read, tracks)) = c.in-ok-alternatives.ensures.answer h in
+    let (q, (read, tracks)) = c.in_ok-alternatives.ensures.answer h in
     let at = c.alternatives.new.self.at in (
       q,
       (
         verdict_accepted c.args.bytes.now q at
             (read ∙ ap (λ b. took q at (drop at b.now)) c.alternatives.ensures.same)
-            c.if-place-bytes.false (sym tracks.shared ∙ c.if-builder.false),
+            c.if-place_bytes.false (sym tracks.shared ∙ c.if-builder.false),
         tracks,
       ),
     )

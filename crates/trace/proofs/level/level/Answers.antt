@@ -6,9 +6,9 @@ use Rattle.trace.proofs.level.level.Goals as goal
 
 pub loop-term-preserved : goal.loop-term-preserved
 loop-term-preserved g c = (
-  c.in-ok-visit.ensures.same ∙ c.loop-term.invariant.0,
+  c.in_ok-visit.ensures.same ∙ c.loop-term.invariant.0,
   gathered_next c.args.front.now c.loop-term.term-index c.loop-term-test.true
-      (visited_like c.loop-term.invariant.0 c.in-ok-visit.ensures.answer)
+      (visited_like c.loop-term.invariant.0 c.in_ok-visit.ensures.answer)
       c.loop-term.invariant.1,
 )
 

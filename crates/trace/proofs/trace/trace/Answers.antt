@@ -10,18 +10,18 @@ use Rattle.trace.specs.Steps.{Traced}
 use Rattle.trace.proofs.Levels.{level_fewer, level_like}
 use Rattle.trace.proofs.Steps.{layers_none, layers_more, layers_all}
 use Rattle.trace.proofs.trace.trace.Given.{Over}
-use Rattle.trace.proofs.trace.trace.Goals.{In-ok-extend-from-slice}
+use Rattle.trace.proofs.trace.trace.Goals.{In_ok-extend_from_slice}
 use Rattle.trace.proofs.trace.trace.Goals as goal
 
 pub levels-init : goal.levels-init
 levels-init g c =
-    let made = c.in-ok-seen.ensures in
-    let long = c.in-ok-seen.seen.ok.0 in
+    let made = c.in_ok-seen.ensures in
+    let long = c.in_ok-seen.seen.ok.0 in
     let same = ap (λ (m : Meaning). m.top) c.top.ensures.same in (
       refl,
       omega (arith, long, made.len, c.top.ensures.answer, same),
       layers_none (g.S.Store.meaning c.top.new.self).has c.args.term (c.top.result + 1)
-          c.new-reached.ensures.items c.in-ok-front.ensures.items
+          c.new-reached.ensures.items c.in_ok-front.ensures.items
           (made.items-if-clones-equal (λ y e. e)),
     )
 
@@ -31,26 +31,26 @@ level-requires g c =
       arith,
       ap (λ (m : Meaning). m.top) c.levels.invariant.0,
       c.levels.invariant.1,
-      ap length c.as-mut-slice.ensures.value,
+      ap length c.as_mut_slice.ensures.value,
     )
 
-pub returns-in-err-front-2 : goal.returns-in-err-front-2
-returns-in-err-front-2 g c = search (rules, IfOk-from_err)
+pub returns-in_err-front-2 : goal.returns-in_err-front-2
+returns-in_err-front-2 g c = search (rules, IfOk-from_err)
 
 -- the marks after a level, as the trace holds them
-marks_after : (g : Over) (c : In-ok-extend-from-slice g)
+marks_after : (g : Over) (c : In_ok-extend_from_slice g)
     → (with_items c.levels.seen c.level.new.seen).items ≡ c.level.new.seen
 marks_after g c =
     with_items_is c.levels.seen c.level.new.seen
-    (c.level.auto.seen ∙ c.as-mut-slice.ensures.len)
+    (c.level.auto.seen ∙ c.as_mut_slice.ensures.len)
 
 -- what the level says of the front, the marks and the store as they were at first
-levelled : (g : Over) (c : In-ok-extend-from-slice g)
+levelled : (g : Over) (c : In_ok-extend_from_slice g)
     → Level (g.S.Store.meaning c.top.new.self).has (vec_items c.levels.front)
-    (vec_items c.levels.seen) c.level.new.seen (vec_items c.in-ok-front-2.front)
+    (vec_items c.levels.seen) c.level.new.seen (vec_items c.in_ok-front-2.front)
 levelled g c =
-    level_like c.levels.invariant.0 c.as-slice.ensures.value c.as-mut-slice.ensures.value
-    c.in-ok-front-2.ensures.answer
+    level_like c.levels.invariant.0 c.as_slice.ensures.value c.as_mut_slice.ensures.value
+    c.in_ok-front-2.ensures.answer
 
 pub levels-smaller : goal.levels-smaller
 levels-smaller g c =
@@ -61,22 +61,22 @@ levels-smaller g c =
 pub levels-preserved : goal.levels-preserved
 levels-preserved g c =
     let reached = vec_items c.levels.reached in
-    let slice = c.as-slice-in-levels.ensures.value in (
+    let slice = c.as_slice-in-levels.ensures.value in (
       c.level.ensures.same ∙ c.levels.invariant.0,
       omega (
         arith,
         c.levels.invariant.1,
         ap length (marks_after g c),
         c.level.auto.seen,
-        ap length c.as-mut-slice.ensures.value,
+        ap length c.as_mut_slice.ensures.value,
       ),
       layers_more (g.S.Store.meaning c.top.new.self).has c.args.term (levelled g c)
-          (c.in-ok-extend-from-slice.ensures.items ∙ ap (λ (xs : List ℕ). reached ++ xs) slice)
+          (c.in_ok-extend_from_slice.ensures.items ∙ ap (λ (xs : List ℕ). reached ++ xs) slice)
           (marks_after g c) c.levels.invariant.2,
     )
 
-pub returns-in-err-extend-from-slice : goal.returns-in-err-extend-from-slice
-returns-in-err-extend-from-slice g c = search (rules, IfOk-from_err)
+pub returns-in_err-extend_from_slice : goal.returns-in_err-extend_from_slice
+returns-in_err-extend_from_slice g c = search (rules, IfOk-from_err)
 
 pub returns : goal.returns
 returns g c =

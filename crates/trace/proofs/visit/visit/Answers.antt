@@ -7,7 +7,7 @@ use Rattle.trace.proofs.Levels.{visited_none, visited_more, visited_all, visited
 use Rattle.trace.proofs.Seeks.{least_like, none_like}
 use Rattle.trace.proofs.Succession.{near_origin, near_next, object_small, room_next}
 use Rattle.trace.proofs.visit.visit.Given.{Over}
-use Rattle.trace.proofs.visit.visit.Goals.{In-ok-note}
+use Rattle.trace.proofs.visit.visit.Goals.{In_ok-note}
 use Rattle.trace.proofs.visit.visit.Goals as goal
 
 pub returns-then-term-eq-ANY : goal.returns-then-term-eq-ANY
@@ -33,13 +33,13 @@ note-requires g c =
     c.loop-triple.auto.seen c.requires
 
 -- what seek found is the least triple of the term from the start on, also for the store as it was at first
-least : (g : Over) (c : In-ok-note g)
+least : (g : Over) (c : In_ok-note g)
     → Least (g.S.Store.meaning c.args.store.now).has (of_subject c.args.term)
     c.loop-triple.start c.in-Some.triple
 least g c = least_like c.loop-triple.invariant.0 c.in-Some.ensures.answer
 
-pub returns-in-err-note : goal.returns-in-err-note
-returns-in-err-note g c = search (rules, IfOk-from_err)
+pub returns-in_err-note : goal.returns-in_err-note
+returns-in_err-note g c = search (rules, IfOk-from_err)
 
 pub behind-start-requires : goal.behind-start-requires
 behind-start-requires g c =
@@ -49,7 +49,7 @@ behind-start-requires g c =
 pub loop-triple-smaller : goal.loop-triple-smaller
 loop-triple-smaller g c =
     let first = c.args.store.now in
-    let found = (least g (goal.at.loop-triple-smaller g c).In-ok-note).candidate in
+    let found = (least g (goal.at.loop-triple-smaller g c).In_ok-note).candidate in
     room_next (g.S.Store.meaning first) (g.S.Store.sound first) found c.behind-start.ensures
     c.loop-triple.invariant.1
 
@@ -58,18 +58,18 @@ loop-triple-preserved g c =
     let first = c.args.store.now in
     let m = g.S.Store.meaning first in
     let sound = g.S.Store.sound first in
-    let found = least g (goal.at.loop-triple-preserved g c).In-ok-note in
+    let found = least g (goal.at.loop-triple-preserved g c).In_ok-note in
     let some = c.if-term-eq-ANY.false in (
       c.seek.ensures.same ∙ c.loop-triple.invariant.0,
       near_next m sound found.candidate c.behind-start.ensures,
       visited_more m.has c.args.term (omega arith) found c.behind-start.ensures
           (object_below m sound found.candidate c.loop-triple.auto.seen c.requires)
-          c.in-ok-note.ensures c.loop-triple.invariant.2,
+          c.in_ok-note.ensures c.loop-triple.invariant.2,
     )
 
 pub returns : goal.returns
 returns g c = record {
   answer = visited_all (g.S.Store.meaning c.args.store.now).has c.args.term
-      (none_like c.loop-triple.invariant.0 c.in-default.ensures.answer) c.loop-triple.invariant.2;
+      (none_like c.loop-triple.invariant.0 c.in_default.ensures.answer) c.loop-triple.invariant.2;
   same = c.seek.ensures.same ∙ c.loop-triple.invariant.0;
 }

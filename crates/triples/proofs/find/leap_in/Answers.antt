@@ -9,4 +9,4 @@ returns-in-Some g c =
     let has = among (map (g.T.Element.placed c.args.property) c.args.items.now) in
     subst (Leapt has c.args.position c.args.selector c.args.bound) (sym c.offered.ensures)
     (leapt_from_sought has c.args.position c.args.selector c.args.bound c.in-Some.start
-    (sym c.aim.ensures ∙ c.in-Some.is) c.seek-in.result c.seek-in.ensures)
+    (sym c.aim.ensures ∙ c.in-Some.is) c.seek_in.result c.seek_in.ensures)

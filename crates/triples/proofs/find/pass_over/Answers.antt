@@ -12,19 +12,19 @@ pub loop-i-init : goal.loop-i-init
 loop-i-init g c =
     let triple = g.T.Element.placed c.args.property in
     leapt_none c.args.position c.args.selector c.args.bound triple c.args.items.now
-    c.lower-bound-i.result
-    (subst (λ t. Split triple c.args.items.now t c.lower-bound-i.result) c.floor.ensures
-    c.lower-bound-i.ensures)
+    c.lower_bound-i.result
+    (subst (λ t. Split triple c.args.items.now t c.lower_bound-i.result) c.floor.ensures
+    c.lower_bound-i.ensures)
 
-pub returns-then-is-passed : goal.returns-then-is-passed
-returns-then-is-passed g c =
+pub returns-then-is_passed : goal.returns-then-is_passed
+returns-then-is_passed g c =
     let triple = g.T.Element.placed c.args.property in
     leapt_rest c.args.position c.args.selector c.args.bound triple c.args.items.now
     c.loop-i.i
     c.loop-i.least
     (silent_passed triple c.args.items.now c.args.selector c.requires c.loop-i.i c.loop-i.i
     c.index-items-i.result c.loop-i-test.true c.index-items-i.is
-    (ap (passed c.args.selector) (sym c.triple-triple.ensures) ∙ sym c.if-is-passed.ensures)
+    (ap (passed c.args.selector) (sym c.triple-triple.ensures) ∙ sym c.if-is_passed.ensures)
     (λ k d low high. absurd (omega (arith, low, high))))
     c.loop-i.invariant
 
@@ -37,7 +37,7 @@ loop-i-preserved g c =
     c.args.selector c.args.bound)
     (ap (λ t. lesser least (offer_of t c.args.position c.args.selector c.args.bound))
     (sym c.triple-triple.ensures)
-    ∙ ap (lesser least) (sym c.offer.ensures) ∙ sym c.lesser-of-least.ensures)
+    ∙ ap (lesser least) (sym c.offer.ensures) ∙ sym c.lesser_of-least.ensures)
     (leapt_more c.args.position c.args.selector c.args.bound triple c.args.items.now
     c.loop-i.i
     c.index-items-i.result least c.loop-i-test.true c.index-items-i.is c.loop-i.invariant)

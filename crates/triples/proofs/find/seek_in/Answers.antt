@@ -7,7 +7,7 @@ pub returns : goal.returns
 returns g c =
     let triple = g.T.Element.placed c.args.property in
     let xs = c.args.items.now in
-    sought_from_met triple xs c.args.selector c.args.start c.lower-bound-from.result
-    (subst (λ t. Split triple xs t c.lower-bound-from.result)
-    (c.later-of.ensures ∙ ap (later c.args.start) c.floor.ensures) c.lower-bound-from.ensures)
-    c.requires c.first-match.result c.first-match.ensures
+    sought_from_met triple xs c.args.selector c.args.start c.lower_bound-from.result
+    (subst (λ t. Split triple xs t c.lower_bound-from.result)
+    (c.later_of.ensures ∙ ap (later c.args.start) c.floor.ensures) c.lower_bound-from.ensures)
+    c.requires c.first_match.result c.first_match.ensures

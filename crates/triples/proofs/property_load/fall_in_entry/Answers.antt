@@ -15,8 +15,8 @@ returns-in-Some c =
       place = c.in-Some.place;
       inside = c.loop-i-test.true;
       falls = subst (λ (xs : List Pair). NotAbove (triple_of property) xs c.in-Some.place)
-          c.pairs-of.ensures
-          (pairs_fall property c.pairs-of.result.now c.in-Some.place c.in-Some.ensures);
+          c.pairs_of.ensures
+          (pairs_fall property c.pairs_of.result.now c.in-Some.place c.in-Some.ensures);
       is = refl;
     }
 
@@ -27,8 +27,8 @@ loop-i-preserved c k h =
     let property = property_of dir c.loop-i.i in
     ⊎_elim
     (λ e. subst (λ i. Ordered (triple_of (property_of dir i)) (section dir pairs i)) (sym e)
-    (subst (λ (xs : List Pair). Ordered (triple_of property) xs) c.pairs-of.ensures
-    (pairs_ascend property c.pairs-of.result.now c.in-default.ensures)))
+    (subst (λ (xs : List Pair). Ordered (triple_of property) xs) c.pairs_of.ensures
+    (pairs_ascend property c.pairs_of.result.now c.in_default.ensures)))
     (λ ne. c.loop-i.invariant k (omega (arith, h, ne)))
     (cases_eq k c.loop-i.i)
 

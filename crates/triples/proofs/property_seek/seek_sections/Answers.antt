@@ -10,23 +10,23 @@ use Rattle.triples.proofs.Joins.{joins_seek, join_before, join_more, join_all, s
 use Rattle.triples.proofs.Sections.{section_ordered}
 use Rattle.triples.proofs.property_seek.seek_sections.Goals as goal
 
-pub span-of-span-requires : goal.span-of-span-requires
-span-of-span-requires c =
+pub span_of-span-requires : goal.span_of-span-requires
+span_of-span-requires c =
     directory_ordered c.args.top c.args.directory.now (length c.args.pairs.now) c.requires.good
 
 pub loop-i-init : goal.loop-i-init
 loop-i-init c =
     join_before (joins_seek c.args.selector c.args.start) c.args.directory.now
     c.args.pairs.now
-    c.span-of-span.result.from c.span-of-span.ensures.before
+    c.span_of-span.result.from c.span_of-span.ensures.before
 
-pub seek-in-found-requires : goal.seek-in-found-requires
-seek-in-found-requires c =
+pub seek_in-found-requires : goal.seek_in-found-requires
+seek_in-found-requires c =
     let dir = c.args.directory.now in
     let taken = c.loop-i-test.true in
-    let inside = c.span-of-span.ensures.inside in
+    let inside = c.span_of-span.ensures.inside in
     subst (λ (xs : List Pair). Ordered (triple_of (property_of dir c.loop-i.i)) xs)
-    (sym c.pairs-of.ensures)
+    (sym c.pairs_of.ensures)
     (section_ordered dir c.args.pairs.now c.requires.ordered c.loop-i.i
     (omega (arith, taken, inside)))
 
@@ -36,22 +36,22 @@ loop-i-preserved c =
     let pairs = c.args.pairs.now in
     let i = c.loop-i.i in
     let property = property_of dir i in
-    let found = c.seek-in-found.result in
+    let found = c.seek_in-found.result in
     subst (Sought (among (triples_upto dir pairs (i + 1))) c.args.selector c.args.start)
-    (sym c.earlier-of-least.ensures)
+    (sym c.earlier_of-least.ensures)
     (join_more (joins_seek c.args.selector c.args.start) dir pairs i c.loop-i.least found
     c.loop-i.invariant
     (sought_known (among (section_triples dir pairs i)) c.args.selector c.args.start property
     (λ t h. sym (pair_property property (section dir pairs i) t h)) found
-    (c.span-of-span.ensures.within i c.loop-i.auto.i c.loop-i-test.true)
+    (c.span_of-span.ensures.within i c.loop-i.auto.i c.loop-i-test.true)
     (subst₂
     (λ (xs : List Pair) (s : Selector). Sought (among (map (triple_of property) xs)) s c.args.start
     found)
-    c.pairs-of.ensures c.with-known.ensures c.seek-in-found.ensures)))
+    c.pairs_of.ensures c.with-known.ensures c.seek_in-found.ensures)))
 
 pub returns : goal.returns
 returns c =
-    let span = c.span-of-span.ensures in
+    let span = c.span_of-span.ensures in
     let end = c.loop-i.auto.i-end span.upward in
     let inside = span.inside in
     let left = c.loop-i-test.false in

@@ -4,31 +4,31 @@ use Rattle.triples.proofs.Lexical.{rows_ascend, rows_fall}
 use Rattle.triples.proofs.Refusals.{rejection_is}
 use Rattle.triples.proofs.row_load.fault.Goals as goal
 
-pub returns-then-top-gt-LARGEST-TOP : goal.returns-then-top-gt-LARGEST-TOP
-returns-then-top-gt-LARGEST-TOP c =
+pub returns-then-top-gt-LARGEST_TOP : goal.returns-then-top-gt-LARGEST_TOP
+returns-then-top-gt-LARGEST_TOP c =
     subst (λ x. RowsOutcome c.args.top c.args.rows.now (Some x))
     (sym (rejection_is c.unplaced.result _ _ c.unplaced.ensures.0 c.unplaced.ensures.1))
     (over (λ l. ⊎_elim (λ a. let small = l.small in omega (arith, a, small))
     (λ b. let few = l.few in let many = b.1 in omega (arith, few, many))
-    c.then-top-gt-LARGEST-TOP.either))
+    c.then-top-gt-LARGEST_TOP.either))
 
 pub returns-in-Some : goal.returns-in-Some
 returns-in-Some c =
     outside c.in-Some.place
-    (record { small = c.if-top-gt-LARGEST-TOP.false; few = c.if-rows-gt-MOST-TRIPLES.false })
+    (record { small = c.if-top-gt-LARGEST_TOP.false; few = c.if-rows-gt-MOST_TRIPLES.false })
     c.in-Some.ensures
 
 pub returns-in-Some-fall : goal.returns-in-Some-fall
 returns-in-Some-fall c =
     falls c.in-Some-fall.place
-    (record { small = c.if-top-gt-LARGEST-TOP.false; few = c.if-rows-gt-MOST-TRIPLES.false })
-    c.in-default.ensures
+    (record { small = c.if-top-gt-LARGEST_TOP.false; few = c.if-rows-gt-MOST_TRIPLES.false })
+    c.in_default.ensures
     (rows_fall c.args.rows.now c.in-Some-fall.place c.in-Some-fall.ensures)
 
 pub returns-in-None : goal.returns-in-None
 returns-in-None c =
     accepted (record {
-      limited = record { small = c.if-top-gt-LARGEST-TOP.false; few = c.if-rows-gt-MOST-TRIPLES.false };
-      terms = c.in-default.ensures;
+      limited = record { small = c.if-top-gt-LARGEST_TOP.false; few = c.if-rows-gt-MOST_TRIPLES.false };
+      terms = c.in_default.ensures;
       ordered = rows_ascend c.args.rows.now c.in-None.ensures;
     })

@@ -9,11 +9,11 @@ sum_lt c =
     let k = c.args.last + 1 - c.loop-i.i
     in omega (arith, value-lt_four k (drop c.loop-i.i c.args.bytes.now) (omega arith))
 
-pub overflow-mul-sum : goal.overflow-mul-sum
-overflow-mul-sum c = omega (arith, sum_lt c)
+pub overflow_mul-sum : goal.overflow_mul-sum
+overflow_mul-sum c = omega (arith, sum_lt c)
 
-pub overflow-add-sum : goal.overflow-add-sum
-overflow-add-sum c = omega (arith, sum_lt (goal.at.overflow-add-sum c).In-loop-i)
+pub overflow_add-sum : goal.overflow_add-sum
+overflow_add-sum c = omega (arith, sum_lt (goal.at.overflow_add-sum c).In-loop-i)
 
 pub loop-i-preserved : goal.loop-i-preserved
 loop-i-preserved c =

@@ -4,8 +4,8 @@ use Rattle.varint.proofs.Groups.{encode_less, encode_more}
 use Rattle.varint.proofs.Laws.{length-encode}
 use Rattle.varint.proofs.write.length_of.Goals as goal
 
-pub overflow-add-count : goal.overflow-add-count
-overflow-add-count c = omega (arith, length-encode c.args.n)
+pub overflow_add-count : goal.overflow_add-count
+overflow_add-count c = omega (arith, length-encode c.args.n)
 
 pub loop-rest-preserved : goal.loop-rest-preserved
 loop-rest-preserved c =

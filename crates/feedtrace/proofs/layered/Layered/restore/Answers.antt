@@ -6,14 +6,14 @@ use Rattle.feedtrace.proofs.layered.Layered.restore.Goals as goal
 
 pub returns-in-Withdrawn : goal.returns-in-Withdrawn
 returns-in-Withdrawn c =
-    let after = c.restore-to.new.layer in
-    subst (λ (l : Layered). RestoredOn c.args.triple l c.restore-to.result (Withdrawn after))
+    let after = c.restore_to.new.layer in
+    subst (λ (l : Layered). RestoredOn c.args.triple l c.restore_to.result (Withdrawn after))
     (sym c.in-Withdrawn.is)
-    (after, (refl, c.restore-to.ensures))
+    (after, (refl, c.restore_to.ensures))
 
 pub returns-in-Both : goal.returns-in-Both
 returns-in-Both c =
-    let after = c.restore-to-in-Both.new.layer in
-    subst (λ (l : Layered). RestoredOn c.args.triple l c.restore-to-in-Both.result (Both after))
+    let after = c.restore_to-in-Both.new.layer in
+    subst (λ (l : Layered). RestoredOn c.args.triple l c.restore_to-in-Both.result (Both after))
     (sym c.in-Both.is)
-    (after, (refl, c.restore-to-in-Both.ensures))
+    (after, (refl, c.restore_to-in-Both.ensures))

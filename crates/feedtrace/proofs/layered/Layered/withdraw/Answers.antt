@@ -6,14 +6,14 @@ use Rattle.feedtrace.proofs.layered.Layered.withdraw.Goals as goal
 
 pub returns-in-Withdrawn : goal.returns-in-Withdrawn
 returns-in-Withdrawn c =
-    let after = c.withdraw-from.new.layer in
-    subst (λ (l : Layered). WithdrewOn c.args.triple l c.withdraw-from.result (Withdrawn after))
+    let after = c.withdraw_from.new.layer in
+    subst (λ (l : Layered). WithdrewOn c.args.triple l c.withdraw_from.result (Withdrawn after))
     (sym c.in-Withdrawn.is)
-    (after, (refl, c.withdraw-from.ensures))
+    (after, (refl, c.withdraw_from.ensures))
 
 pub returns-in-Both : goal.returns-in-Both
 returns-in-Both c =
-    let after = c.withdraw-from-in-Both.new.layer in
-    subst (λ (l : Layered). WithdrewOn c.args.triple l c.withdraw-from-in-Both.result (Both after))
+    let after = c.withdraw_from-in-Both.new.layer in
+    subst (λ (l : Layered). WithdrewOn c.args.triple l c.withdraw_from-in-Both.result (Both after))
     (sym c.in-Both.is)
-    (after, (refl, c.withdraw-from-in-Both.ensures))
+    (after, (refl, c.withdraw_from-in-Both.ensures))

@@ -8,9 +8,9 @@ cases_none : {A : Type 0} (o : Option A) {P : Type 0} (Q : A → Type 0) → fal
 cases_none None Q e p = p
 cases_none (Some x) Q e p = absurd (true≢false (sym e))
 
-pub returns-else-is-some : goal.returns-else-is-some
-returns-else-is-some c =
+pub returns-else-is_some : goal.returns-else-is_some
+returns-else-is_some c =
     cases_none c.args.self.now.loading
     (λ _. TableLine (trimmed c.args.line.now) c.args.self.now c.step.result
     c.step.new.self)
-    c.if-is-some.ensures (c.parse.result, (c.parse.ensures, c.step.ensures))
+    c.if-is_some.ensures (c.parse.result, (c.parse.ensures, c.step.ensures))

@@ -6,6 +6,6 @@ use Rattle.feedtrace.proofs.session.Session.lay_inverse.Goals as goal
 pub returns-in-Some : goal.returns-in-Some
 returns-in-Some c =
     changed_some (InverseOn c.args.property c.args.inverse) c.args.self.now c.in-Some.store
-    c.under-inverse-after.result.0 c.under-inverse-after.result.1
+    c.under_inverse-after.result.0 c.under_inverse-after.result.1
     (sym c.in-Some.ensures.value)
-    c.under-inverse-after.ensures
+    c.under_inverse-after.ensures

@@ -6,6 +6,6 @@ use Rattle.feedtrace.proofs.session.Session.lay_withdrawn.Goals as goal
 pub returns-in-Some : goal.returns-in-Some
 returns-in-Some c =
     changed_some WithdrawnOn c.args.self.now c.in-Some.store
-    c.under-withdrawn-after.result.0 c.under-withdrawn-after.result.1
+    c.under_withdrawn-after.result.0 c.under_withdrawn-after.result.1
     (sym c.in-Some.ensures.value)
-    c.under-withdrawn-after.ensures
+    c.under_withdrawn-after.ensures

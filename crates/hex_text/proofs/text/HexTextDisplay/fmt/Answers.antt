@@ -4,8 +4,8 @@ use Rattle.std.proofs.lemmas.Bool.{ltb-false}
 use Rattle.hex_text.proofs.Writing.{put_then, text_of_first}
 use Rattle.hex_text.proofs.text.HexTextDisplay.fmt.Goals as goal
 
-pub returns-in-ok-put-byte-clause-writes : goal.returns-in-ok-put-byte-clause-writes
-returns-in-ok-put-byte-clause-writes g c plain ok =
+pub returns-in_ok-put_byte-clause-writes : goal.returns-in_ok-put_byte-clause-writes
+returns-in_ok-put_byte-clause-writes g c plain ok =
     put_then g.W.Write.write_str_gives (text_of_first c.args.self.now.bytes.now (omega (arith, ltb-false)))
-    (c.in-ok-put-byte.ensures plain refl)
-    (λ next. c.put-rest.ensures next ok)
+    (c.in_ok-put_byte.ensures plain refl)
+    (λ next. c.put_rest.ensures next ok)

@@ -12,15 +12,15 @@ returns g c =
     let m = g.S.Store.meaning c.args.self.now.below in
     let p = c.args.self.now.turn.property in
     let q = c.args.self.now.turn.inverse in
-    let r = c.leap-turned-turned.result in
+    let r = c.leap_turned-turned.result in
     record {
       answer = subst
           (Leapt (union m.has (turned p q m)) c.args.position c.args.selector c.args.bound)
-          (sym c.lesser-of.ensures)
+          (sym c.lesser_of.ensures)
           (leapt_union m.has (turned p q m) c.args.position c.args.selector c.args.bound
           c.leap-held.result r c.leap-held.ensures.answer
           (subst
           (λ (k : Meaning). Leapt (turned p q k) c.args.position c.args.selector c.args.bound r)
-          c.leap-held.ensures.same c.leap-turned-turned.ensures.answer));
-      same = ap (with_turned p q) (c.leap-turned-turned.ensures.same ∙ c.leap-held.ensures.same);
+          c.leap-held.ensures.same c.leap_turned-turned.ensures.answer));
+      same = ap (with_turned p q) (c.leap_turned-turned.ensures.same ∙ c.leap-held.ensures.same);
     }

@@ -12,13 +12,13 @@ returns g c =
     let m = g.S.Store.meaning c.args.self.now.below in
     let p = c.args.self.now.turn.property in
     let q = c.args.self.now.turn.inverse in
-    let r = c.seek-turned-turned.result in
+    let r = c.seek_turned-turned.result in
     record {
       answer = subst (Sought (union m.has (turned p q m)) c.args.selector c.args.start)
-          (sym c.earlier-of.ensures)
+          (sym c.earlier_of.ensures)
           (sought_union m.has (turned p q m) c.args.selector c.args.start c.seek-held.result r
           c.seek-held.ensures.answer
           (subst (λ (k : Meaning). Sought (turned p q k) c.args.selector c.args.start r)
-          c.seek-held.ensures.same c.seek-turned-turned.ensures.answer));
-      same = ap (with_turned p q) (c.seek-turned-turned.ensures.same ∙ c.seek-held.ensures.same);
+          c.seek-held.ensures.same c.seek_turned-turned.ensures.answer));
+      same = ap (with_turned p q) (c.seek_turned-turned.ensures.same ∙ c.seek-held.ensures.same);
     }

@@ -6,8 +6,8 @@ use Rattle.layers.specs.Sets.{most_withdrawn, Once}
 use Rattle.layers.proofs.Sets.{room_from_take, once_push}
 use Rattle.layers.proofs.triple_set.TripleSet.add.Goals as goal
 
-pub invariant-of-self : goal.invariant-of-self
-invariant-of-self c =
+pub invariant_of-self : goal.invariant_of-self
+invariant_of-self c =
     let s = c.args.self.now in
     let room = room_from_take s.entries s.count most_withdrawn s.full s.few c.requires.room in (
       length-set s.entries s.count c.args.triple ∙ s.full,

@@ -6,6 +6,6 @@ use Rattle.layers.proofs.triple_set.TripleSet.has.Goals as goal
 
 pub returns : goal.returns
 returns c =
-    c.is-some.ensures
-    ∙ found_among (members c.args.self.now) c.args.triple c.place-of.result
-    c.place-of.ensures
+    c.is_some.ensures
+    ∙ found_among (members c.args.self.now) c.args.triple c.place_of.result
+    c.place_of.ensures

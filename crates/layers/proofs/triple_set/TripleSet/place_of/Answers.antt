@@ -4,18 +4,18 @@ use Rattle.triples.specs.Meaning.{among}
 use Rattle.layers.proofs.Sets.{found_take, among-take_more}
 use Rattle.layers.proofs.triple_set.TripleSet.place_of.Goals as goal
 
-pub returns-then-is-same : goal.returns-then-is-same
-returns-then-is-same c =
+pub returns-then-is_same : goal.returns-then-is_same
+returns-then-is_same c =
     let s = c.args.self.now in
     found_take s.entries s.count c.loop-i.i c.args.triple c.loop-i-test.true
-    (omega (arith, s.full, s.few)) (sym c.if-is-same.ensures)
+    (omega (arith, s.full, s.few)) (sym c.if-is_same.ensures)
 
 pub loop-i-preserved : goal.loop-i-preserved
 loop-i-preserved c =
     let s = c.args.self.now in
     among-take_more s.entries c.loop-i.i c.args.triple
     (omega (arith, s.full, s.few, c.loop-i-test.true)) c.loop-i.invariant
-    (sym c.if-is-same.ensures)
+    (sym c.if-is_same.ensures)
 
 pub returns : goal.returns
 returns c =

@@ -4,8 +4,8 @@ use Rattle.std.proofs.lemmas.List.{length-set}
 use Rattle.layers.proofs.Sets.{once_moved, removed_moved}
 use Rattle.layers.proofs.triple_set.TripleSet.remove.Goals as goal
 
-pub invariant-of-self : goal.invariant-of-self
-invariant-of-self c =
+pub invariant_of-self : goal.invariant_of-self
+invariant_of-self c =
     let s = c.args.self.now in (
       length-set s.entries c.in-Some.place _ ∙ s.full,
       (

@@ -12,7 +12,7 @@ returns g c =
     record {
       answer = subst (Withdraws m gone c.args.triple (Ok tt)) (sym c.add.ensures)
           (withdraws_yes m gone c.args.triple (sym c.if-has.ensures)
-          (sym c.if-not-is-held.ensures.answer)
-          (omega (arith, c.count.ensures, c.if-count-ge-MOST-WITHDRAWN.false)));
-      same = c.is-held.ensures.same;
+          (sym c.if-not-is_held.ensures.answer)
+          (omega (arith, c.count.ensures, c.if-count-ge-MOST_WITHDRAWN.false)));
+      same = c.is_held.ensures.same;
     }

@@ -11,7 +11,7 @@ use Rattle.layers.proofs.Leaps.{lowest_term}
 use Rattle.layers.proofs.Withdrawals.{LeaptPast, leapt_past_all, leapt_past_found, leapt_past_more}
 use Rattle.layers.proofs.Withdrawals.{same_without}
 use Rattle.layers.proofs.withdrawn_store.WithdrawnStore.leap.Given.{Over}
-use Rattle.layers.proofs.withdrawn_store.WithdrawnStore.leap.Goals.{After-leap, In-Some, After-is-some}
+use Rattle.layers.proofs.withdrawn_store.WithdrawnStore.leap.Goals.{After-leap, In-Some, After-is_some}
 use Rattle.layers.proofs.withdrawn_store.WithdrawnStore.leap.Goals as goal
 
 -- what the layer stands for when the turn begins
@@ -34,30 +34,30 @@ same_leapt g c =
     same_without (g.S.Store.meaning c.leap.new.self)
     (g.S.Store.meaning c.loop-number.self.below) gone gone c.leap.ensures.same refl
 
-pub returns-in-default : goal.returns-in-default
-returns-in-default g c =
-    let at = (goal.at.returns-in-default g c).After-leap in
+pub returns-in_default : goal.returns-in_default
+returns-in_default g c =
+    let at = (goal.at.returns-in_default g c).After-leap in
     record {
       answer = subst
           (λ (m : Meaning). Leapt m.has c.args.position c.args.selector c.args.bound None)
           c.loop-number.invariant.0
           (leapt_past_all (g.S.Store.meaning c.loop-number.self.below)
           (members c.loop-number.self.gone) c.args.position c.args.selector c.args.bound
-          c.loop-number.from (past g at) c.in-default.ensures.answer);
+          c.loop-number.from (past g at) c.in_default.ensures.answer);
       same = same_leapt g at ∙ c.loop-number.invariant.0;
     }
 
 -- what the seek says of the layer as it is when the turn begins
-sought : (g : Over) (c : goal.After-is-some g)
-    → Sought (layer g (goal.at.After-is-some g c).After-leap).has
+sought : (g : Over) (c : goal.After-is_some g)
+    → Sought (layer g (goal.at.After-is_some g c).After-leap).has
     (select c.args.selector c.args.position c.in-Some.number) origin c.seek.result
 sought g c =
     subst₂ (λ (m : Meaning) k. Sought m.has k origin c.seek.result)
-    (same_leapt g (goal.at.After-is-some g c).After-leap) c.with.ensures c.seek.ensures.answer
+    (same_leapt g (goal.at.After-is_some g c).After-leap) c.with.ensures c.seek.ensures.answer
 
-pub returns-then-is-some : goal.returns-then-is-some
-returns-then-is-some g c =
-    let at = (goal.at.returns-then-is-some g c).After-leap in
+pub returns-then-is_some : goal.returns-then-is_some
+returns-then-is_some g c =
+    let at = (goal.at.returns-then-is_some g c).After-leap in
     let below = c.loop-number.self.below in
     let number = c.in-Some.number in
     record {
@@ -67,7 +67,7 @@ returns-then-is-some g c =
           (leapt_past_found (g.S.Store.meaning below) (members c.loop-number.self.gone)
           c.args.position c.args.selector c.args.bound c.loop-number.from (past g at) number
           c.in-Some.ensures.answer (g.S.Store.sound below) c.seek.result
-          (sought g (goal.at.returns-then-is-some g c).After-is-some) c.if-is-some.ensures);
+          (sought g (goal.at.returns-then-is_some g c).After-is_some) c.if-is_some.ensures);
       same = c.seek.ensures.same ∙ same_leapt g at ∙ c.loop-number.invariant.0;
     }
 
@@ -99,6 +99,6 @@ loop-number-preserved g c =
           (leapt_past_more (g.S.Store.meaning c.loop-number.self.below)
           (members c.loop-number.self.gone) c.args.position c.args.selector c.args.bound
           c.loop-number.from (past g at) c.in-Some.number c.in-Some.ensures.answer
-          c.seek.result (sought g (goal.at.loop-number-preserved g c).After-is-some)
-          c.if-is-some.ensures),
+          c.seek.result (sought g (goal.at.loop-number-preserved g c).After-is_some)
+          c.if-is_some.ensures),
     )

@@ -11,24 +11,24 @@ pub loop-number-init : goal.loop-number-init
 loop-number-init c = (
   refl,
   λ h.
-      sofar_none alternative with_group with_groups c.in-ok-count.count 0 c.count.new.self
+      sofar_none alternative with_group with_groups c.in_ok-count.count 0 c.count.new.self
       c.count.new.self _ h,
 )
 
-pub returns-in-err-alternative : goal.returns-in-err-alternative
-returns-in-err-alternative c =
-    let p = err_from_is_err_and c.from-residual-in-err-alternative.result
-    c.from-residual-in-err-alternative.ensures.1 in
+pub returns-in_err-alternative : goal.returns-in_err-alternative
+returns-in_err-alternative c =
+    let p = err_from_is_err_and c.from_residual-in_err-alternative.result
+    c.from_residual-in_err-alternative.ensures.1 in
     let here = c.loop-number.self in
     record {
       answer = λ h.
           let f = c.loop-number.invariant.1 h in
           let stopped = ap (λ v. ahead (alternative v) here) (sym f.held.used)
-          ∙ c.in-err-alternative.ensures.answer f.items f.held.tracks in
-          takes_refused _ _ _ _ p.0 c.in-err-alternative.field-0.0 p.1 p.2
-          (sofar_stopped alternative with_group with_groups c.in-ok-count.count
+          ∙ c.in_err-alternative.ensures.answer f.items f.held.tracks in
+          takes_refused _ _ _ _ p.0 c.in_err-alternative.field-0.0 p.1 p.2
+          (sofar_stopped alternative with_group with_groups c.in_ok-count.count
           c.loop-number.-number c.count.new.self here _ f
-          1 most_alternatives c.args.self.now c.in-ok-count.ensures.answer _ _
+          1 most_alternatives c.args.self.now c.in_ok-count.ensures.answer _ _
           c.loop-number-test.true stopped);
       same = c.alternative.ensures.same ∙ c.loop-number.invariant.0 ∙ c.count.ensures.same;
     }
@@ -39,9 +39,9 @@ loop-number-preserved c =
       c.alternative.ensures.same ∙ c.loop-number.invariant.0,
       λ h.
           let f = c.loop-number.invariant.1 h in
-          let (g, (read, came)) = c.in-ok-alternative.ensures.answer f.items
+          let (g, (read, came)) = c.in_ok-alternative.ensures.answer f.items
           f.held.tracks in
-          sofar_more alternative with_group with_groups c.in-ok-count.count
+          sofar_more alternative with_group with_groups c.in_ok-count.count
           c.loop-number.-number c.count.new.self here _ f
           g c.alternative.new.self _ c.loop-number-test.true
           (ap (λ v. ahead (alternative v) here) (sym f.held.used) ∙ read)
@@ -58,10 +58,10 @@ returns c = record {
       let f = c.loop-number.invariant.1 h in (
         f.items,
         (
-          sofar_all alternative with_group with_groups c.in-ok-count.count
+          sofar_all alternative with_group with_groups c.in_ok-count.count
               c.loop-number.-number c.count.new.self
               c.loop-number.self _ f 1 most_alternatives c.args.self.now
-              c.in-ok-count.ensures.answer c.loop-number-test.false,
+              c.in_ok-count.ensures.answer c.loop-number-test.false,
           f.held.tracks,
         ),
       );

@@ -3,8 +3,8 @@ use Rattle.varint.specs.Decode.{decode}
 use Rattle.query.proofs.Numbers.{decoded_answer, number_within, number_took}
 use Rattle.query.proofs.cursor.Cursor.number.Goals as goal
 
-pub overflow-add-self : goal.overflow-add-self
-overflow-add-self c =
+pub overflow_add-self : goal.overflow_add-self
+overflow_add-self c =
     let bytes = c.args.self.now.bytes.now in
     let at = c.args.self.now.at in
     let n = c.in-Ok.number in

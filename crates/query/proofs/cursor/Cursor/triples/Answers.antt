@@ -18,26 +18,26 @@ loop-number-init c =
       refl,
       none,
       λ d h.
-          sofar_none (λ (_ : ℕ). triple) (λ i _. i + 1) length c.in-ok-count.count 0
+          sofar_none (λ (_ : ℕ). triple) (λ i _. i + 1) length c.in_ok-count.count 0
           c.count.new.self c.count.new.self _
           (holds_none b d (with_triples_in d []) (with_triples (used_of b) 0) h (triple_in_none d) none),
     )
 
-pub returns-in-err-triple : goal.returns-in-err-triple
-returns-in-err-triple c =
-    let p = err_from_is_err_and c.from-residual-in-err-triple.result
-    c.from-residual-in-err-triple.ensures.1 in
+pub returns-in_err-triple : goal.returns-in_err-triple
+returns-in_err-triple c =
+    let p = err_from_is_err_and c.from_residual-in_err-triple.result
+    c.from_residual-in_err-triple.ensures.1 in
     let s = c.args.self.now in
-    let at_count = ap (λ h. ahead (count c.args.least h) s) (sym c.triple-room.ensures)
-    ∙ c.in-ok-count.ensures.answer in
+    let at_count = ap (λ h. ahead (count c.args.least h) s) (sym c.triple_room.ensures)
+    ∙ c.in_ok-count.ensures.answer in
     record {
       answer = λ d h.
-          takes_refused _ _ _ _ p.0 c.in-err-triple.field-0.0 p.1 p.2
-          (sofar_stopped (λ (_ : ℕ). triple) (λ i _. i + 1) length c.in-ok-count.count
+          takes_refused _ _ _ _ p.0 c.in_err-triple.field-0.0 p.1 p.2
+          (sofar_stopped (λ (_ : ℕ). triple) (λ i _. i + 1) length c.in_ok-count.count
           c.loop-number.-number
           c.count.new.self c.loop-number.self _ (c.loop-number.invariant.2 d h) c.args.least
           (room c.args.builder.now.triples) s at_count _ _ c.loop-number-test.true
-          c.in-err-triple.ensures.answer);
+          c.in_err-triple.ensures.answer);
       same = c.triple.ensures.same ∙ c.loop-number.invariant.0 ∙ c.count.ensures.same;
     }
 
@@ -46,7 +46,7 @@ loop-number-preserved c =
     let b = c.args.builder.now in
     let u = used_of b in
     let n = c.loop-number.-number in
-    let t = c.in-ok-triple.triple in
+    let t = c.in_ok-triple.triple in
     let used = c.triple-in-loop-number.ensures.used
     ∙ ap (λ v. with_triples v 1) c.loop-number.invariant.1
     ∙ ap (λ k. record { triples = k; nodes = b.nodes }) (omega arith) in (
@@ -54,9 +54,9 @@ loop-number-preserved c =
       used,
       λ d h.
           let s = c.loop-number.invariant.2 d h in
-          sofar_more (λ (_ : ℕ). triple) (λ i _. i + 1) length c.in-ok-count.count n
+          sofar_more (λ (_ : ℕ). triple) (λ i _. i + 1) length c.in_ok-count.count n
           c.count.new.self c.loop-number.self _ s
-          t c.triple.new.self _ c.loop-number-test.true c.in-ok-triple.ensures.answer
+          t c.triple.new.self _ c.loop-number-test.true c.in_ok-triple.ensures.answer
           (length_push s.items t)
           (record {
             tracks = subst (Tracks c.triple-in-loop-number.new.self) (triple_in d s.items t)
@@ -71,8 +71,8 @@ pub triple-requires-in-loop-number : goal.triple-requires-in-loop-number
 triple-requires-in-loop-number c =
     let b = c.args.builder.now in
     let few = b.few in
-    let high = count_high c.args.least c.triple-room.result c.in-ok-count.count
+    let high = count_high c.args.least c.triple_room.result c.in_ok-count.count
     c.args.self.now _ _
-    (omega (arith, c.triple-room.ensures)) c.in-ok-count.ensures.answer in
+    (omega (arith, c.triple_room.ensures)) c.in_ok-count.ensures.answer in
     let now-used = ap (λ u. u.triples) c.loop-number.invariant.1 in
-    omega (arith, high, now-used, c.triple-room.ensures)
+    omega (arith, high, now-used, c.triple_room.ensures)

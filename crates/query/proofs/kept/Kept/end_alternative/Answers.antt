@@ -23,7 +23,7 @@ returns c h =
     ∙ ap (λ v. group_of (record { required = k.required; blocks = k.blocks; filter = v }))
     filter.ensures.value in
     same_draft
-    (map_pushed group_of _ _ _ _ _ _ c.push.ensures.items c.is-ok.ensures.value h same)
+    (map_pushed group_of _ _ _ _ _ _ c.push.ensures.items c.is_ok.ensures.value h same)
     (ap vec_items required.ensures.after ∙ c.new.ensures.items)
     (ap (λ v. map part_of (vec_items v)) blocks.ensures.after
     ∙ ap (map part_of) c.new-2.ensures.items)

@@ -13,6 +13,6 @@ returns c h =
     ∙ ap (λ v. record { triples = vec_items k.triples; filter = vec_items v })
     c.replace-filter.ensures.value in
     same_draft refl refl
-    (map_pushed part_of _ _ _ _ _ _ c.push.ensures.items c.is-ok.ensures.value h same)
+    (map_pushed part_of _ _ _ _ _ _ c.push.ensures.items c.is_ok.ensures.value h same)
     (ap vec_items c.replace-triples.ensures.after ∙ c.new.ensures.items)
     (ap vec_items c.replace-filter.ensures.after ∙ c.new-2.ensures.items)

@@ -7,22 +7,22 @@ use Rattle.query.specs.Parts.{part_of, group_of}
 use Rattle.query.proofs.Counts.{sums_lawful, count_next}
 use Rattle.query.proofs.Lawful.{total_next, total_end, total-map}
 use Rattle.query.proofs.query.Query.counts.Goals as goal
-use Rattle.query.proofs.query.Query.counts.Goals.{After-as-slice, After-len-blocks}
+use Rattle.query.proofs.query.Query.counts.Goals.{After-as_slice, After-len-blocks}
 
 -- with the next alternative the counts are still within a query's limits
-record Room (c : After-as-slice) : Type 0 where
+record Room (c : After-as_slice) : Type 0 where
   blocks : c.loop-alternative.blocks + length (group_of c.alternative-item.result).blocks
       ≤ most_blocks * most_alternatives
   triples : c.loop-alternative.triples + triples_in (group_of c.alternative-item.result) ≤ most_in_all
   nodes : c.loop-alternative.nodes + nodes_in (group_of c.alternative-item.result) ≤ most_in_all
 
-room : (c : After-as-slice) → Room c
+room : (c : After-as_slice) → Room c
 room c =
-    let xs = c.as-slice-alternatives.result.now in
+    let xs = c.as_slice-alternatives.result.now in
     let i = c.loop-alternative.alternative-index in
     let x = c.alternative-item.result in
     let s = sums_lawful xs
-    (subst (λ l. lawful (map group_of l) ≡ true) (sym c.as-slice-alternatives.ensures.value)
+    (subst (λ l. lawful (map group_of l) ≡ true) (sym c.as_slice-alternatives.ensures.value)
     c.args.self.now.keeps) in
     let l = c.loop-alternative-test.true in
     let is = c.alternative-item.is in
@@ -61,10 +61,10 @@ parts c =
     let x = c.alternative-item.result in
     let bs = vec_items x.blocks in
     let t = c.totals-inner.ensures.triples
-    ∙ ap (total (λ b. length (part_of b).triples)) c.as-slice.ensures.value
+    ∙ ap (total (λ b. length (part_of b).triples)) c.as_slice.ensures.value
     ∙ sym (total-map part_of (λ p. length p.triples) bs) in
     let n = c.totals-inner.ensures.nodes
-    ∙ ap (total (λ b. length (part_of b).filter)) c.as-slice.ensures.value
+    ∙ ap (total (λ b. length (part_of b).filter)) c.as_slice.ensures.value
     ∙ sym (total-map part_of (λ p. length p.filter) bs) in
     record {
       blocks = omega (arith, c.len-blocks.ensures, x.blocks.ok.0, length-map bs part_of);
@@ -74,9 +74,9 @@ parts c =
 
 pub totals-inner-requires : goal.totals-inner-requires
 totals-inner-requires c =
-    let r = room (goal.at.totals-inner-requires c).After-as-slice in
+    let r = room (goal.at.totals-inner-requires c).After-as_slice in
     let bs = vec_items c.alternative-item.result.blocks in
-    let is = c.as-slice.ensures.value in
+    let is = c.as_slice.ensures.value in
     record {
       triples = omega (
         arith,
@@ -92,47 +92,47 @@ totals-inner-requires c =
       );
     }
 
-pub overflow-add-blocks : goal.overflow-add-blocks
-overflow-add-blocks c = omega (
+pub overflow_add-blocks : goal.overflow_add-blocks
+overflow_add-blocks c = omega (
   arith,
-  (room (goal.at.overflow-add-blocks c).After-as-slice).blocks,
-  (parts (goal.at.overflow-add-blocks c).After-len-blocks).blocks,
+  (room (goal.at.overflow_add-blocks c).After-as_slice).blocks,
+  (parts (goal.at.overflow_add-blocks c).After-len-blocks).blocks,
 )
 
-pub overflow-add-triples : goal.overflow-add-triples
-overflow-add-triples c = omega (
+pub overflow_add-triples : goal.overflow_add-triples
+overflow_add-triples c = omega (
   arith,
-  (room (goal.at.overflow-add-triples c).After-as-slice).triples,
-  (parts (goal.at.overflow-add-triples c).After-len-blocks).triples,
+  (room (goal.at.overflow_add-triples c).After-as_slice).triples,
+  (parts (goal.at.overflow_add-triples c).After-len-blocks).triples,
 )
 
-pub overflow-add-triples-in-loop-alternative : goal.overflow-add-triples-in-loop-alternative
-overflow-add-triples-in-loop-alternative c =
+pub overflow_add-triples-in-loop-alternative : goal.overflow_add-triples-in-loop-alternative
+overflow_add-triples-in-loop-alternative c =
     omega (
       arith,
-      (room (goal.at.overflow-add-triples-in-loop-alternative c).After-as-slice).triples,
-      (parts (goal.at.overflow-add-triples-in-loop-alternative c).After-len-blocks).triples,
+      (room (goal.at.overflow_add-triples-in-loop-alternative c).After-as_slice).triples,
+      (parts (goal.at.overflow_add-triples-in-loop-alternative c).After-len-blocks).triples,
     )
 
-pub overflow-add-nodes : goal.overflow-add-nodes
-overflow-add-nodes c = omega (
+pub overflow_add-nodes : goal.overflow_add-nodes
+overflow_add-nodes c = omega (
   arith,
-  (room (goal.at.overflow-add-nodes c).After-as-slice).nodes,
-  (parts (goal.at.overflow-add-nodes c).After-len-blocks).nodes,
+  (room (goal.at.overflow_add-nodes c).After-as_slice).nodes,
+  (parts (goal.at.overflow_add-nodes c).After-len-blocks).nodes,
 )
 
-pub overflow-add-nodes-in-loop-alternative : goal.overflow-add-nodes-in-loop-alternative
-overflow-add-nodes-in-loop-alternative c =
+pub overflow_add-nodes-in-loop-alternative : goal.overflow_add-nodes-in-loop-alternative
+overflow_add-nodes-in-loop-alternative c =
     omega (
       arith,
-      (room (goal.at.overflow-add-nodes-in-loop-alternative c).After-as-slice).nodes,
-      (parts (goal.at.overflow-add-nodes-in-loop-alternative c).After-len-blocks).nodes,
+      (room (goal.at.overflow_add-nodes-in-loop-alternative c).After-as_slice).nodes,
+      (parts (goal.at.overflow_add-nodes-in-loop-alternative c).After-len-blocks).nodes,
     )
 
 pub loop-alternative-preserved : goal.loop-alternative-preserved
 loop-alternative-preserved c =
     let p = parts (goal.at.loop-alternative-preserved c).After-len-blocks in
-    let xs = c.as-slice-alternatives.result.now in
+    let xs = c.as_slice-alternatives.result.now in
     let i = c.loop-alternative.alternative-index in
     let x = c.alternative-item.result in
     let l = c.loop-alternative-test.true in
@@ -150,12 +150,12 @@ same_counts p q r s = cc
 
 pub returns : goal.returns
 returns c =
-    let xs = c.as-slice-alternatives.result.now in
+    let xs = c.as_slice-alternatives.result.now in
     let ys = vec_items c.args.self.now.alternatives in
     let i = c.loop-alternative.alternative-index in
     let l = c.loop-alternative-test.false in
     let inv = c.loop-alternative.invariant in
-    let is = c.as-slice-alternatives.ensures.value in
+    let is = c.as_slice-alternatives.ensures.value in
     same_counts
     (ap length is ∙ sym (length-map ys group_of))
     (omega (

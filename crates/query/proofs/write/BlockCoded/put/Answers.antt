@@ -6,24 +6,24 @@ use Rattle.query.specs.Writes.{Put, places_lawful}
 use Rattle.query.proofs.Sound.{Writable, triples_writable, filter_writable}
 use Rattle.query.proofs.Writes.{room_first, room_second, put_append}
 use Rattle.query.proofs.write.BlockCoded.put.Goals as goal
-use Rattle.query.proofs.write.BlockCoded.put.Goals.{After-put-list-place}
+use Rattle.query.proofs.write.BlockCoded.put.Goals.{After-put_list-place}
 
 -- the triples were written
-wrote_triples : (c : After-put-list-place)
+wrote_triples : (c : After-put_list-place)
     → Put (counted triple_bytes (vec_items c.args.self.now.triples)) c.args.at c.args.out.now
-    c.put-list-place.result
-    c.put-list-place.new.out
+    c.put_list-place.result
+    c.put_list-place.new.out
 wrote_triples c =
-    subst (λ l. Put (counted triple_bytes l) c.args.at c.args.out.now c.put-list-place.result
-    c.put-list-place.new.out)
-    c.as-slice.ensures.value c.put-list-place.ensures
+    subst (λ l. Put (counted triple_bytes l) c.args.at c.args.out.now c.put_list-place.result
+    c.put_list-place.new.out)
+    c.as_slice.ensures.value c.put_list-place.ensures
 
-pub put-list-place-requires : goal.put-list-place-requires
-put-list-place-requires c =
+pub put_list-place-requires : goal.put_list-place-requires
+put_list-place-requires c =
     let b = c.args.self.now in
     let ts = vec_items b.triples in
     let ns = vec_items b.filter in
-    let is = sym c.as-slice.ensures.value in
+    let is = sym c.as_slice.ensures.value in
     let w = subst (Writable lawful_triple) is
     (triples_writable 1 ts (and_parts (lawful_triples 1 ts) (lawful_filter ns) c.requires.sound).0) in
     record {
@@ -34,22 +34,22 @@ put-list-place-requires c =
           c.requires.room);
     }
 
-pub put-list-requires : goal.put-list-requires
-put-list-requires c =
+pub put_list-requires : goal.put_list-requires
+put_list-requires c =
     let b = c.args.self.now in
     let ts = vec_items b.triples in
     let ns = vec_items b.filter in
-    let is = sym c.as-slice-2.ensures.value in
+    let is = sym c.as_slice-2.ensures.value in
     let w = subst (Writable places_lawful) is
     (filter_writable ns (and_parts (lawful_triples 1 ts) (lawful_filter ns) c.requires.sound).1) in
     record {
       few = w.0;
       sound = w.1;
-      room = subst (λ l. c.put-list-place.result + length (counted node_bytes l)
-          ≤ length c.put-list-place.new.out) is
+      room = subst (λ l. c.put_list-place.result + length (counted node_bytes l)
+          ≤ length c.put_list-place.new.out) is
           (room_second (counted triple_bytes ts) (counted node_bytes ns) c.args.at _ c.args.out.now
           _ c.requires.room
-          (wrote_triples (goal.at.put-list-requires c).After-put-list-place));
+          (wrote_triples (goal.at.put_list-requires c).After-put_list-place));
     }
 
 pub returns : goal.returns
@@ -57,7 +57,7 @@ returns c =
     let b = c.args.self.now in
     put_append (counted triple_bytes (vec_items b.triples)) (counted node_bytes (vec_items b.filter))
     c.args.at _ _
-    c.args.out.now _ _ c.requires.room (wrote_triples (goal.at.returns c).After-put-list-place)
-    (subst (λ l. Put (counted node_bytes l) c.put-list-place.result c.put-list-place.new.out
-    c.put-list.result c.put-list.new.out)
-    c.as-slice-2.ensures.value c.put-list.ensures)
+    c.args.out.now _ _ c.requires.room (wrote_triples (goal.at.returns c).After-put_list-place)
+    (subst (λ l. Put (counted node_bytes l) c.put_list-place.result c.put_list-place.new.out
+    c.put_list.result c.put_list.new.out)
+    c.as_slice-2.ensures.value c.put_list.ensures)

@@ -5,8 +5,8 @@ use Rattle.query.specs.Format.{place_bytes}
 use Rattle.query.proofs.Writes.{room_first, room_second, put_append}
 use Rattle.query.proofs.write.TriplePatternCoded.put.Goals as goal
 
-pub put-place-place-requires : goal.put-place-place-requires
-put-place-place-requires c =
+pub put_place-place-requires : goal.put_place-place-requires
+put_place-place-requires c =
     let t = c.args.self.now in
     record {
       sound = (and_parts (lawful_place t.subject) (lawful_place t.property && lawful_place t.object)
@@ -16,8 +16,8 @@ put-place-place-requires c =
           c.requires.room;
     }
 
-pub put-places-requires : goal.put-places-requires
-put-places-requires c =
+pub put_places-requires : goal.put_places-requires
+put_places-requires c =
     let t = c.args.self.now in
     let w = and_parts (lawful_place t.subject) (lawful_place t.property && lawful_place t.object)
     c.requires.sound in
@@ -26,7 +26,7 @@ put-places-requires c =
       sound = (v.0, v.1);
       room = room_second (place_bytes t.subject) (place_bytes t.property ++ place_bytes t.object)
           c.args.at _ c.args.out.now _
-          c.requires.room c.put-place-place.ensures;
+          c.requires.room c.put_place-place.ensures;
     }
 
 pub returns : goal.returns
@@ -34,4 +34,4 @@ returns c =
     let t = c.args.self.now in
     put_append (place_bytes t.subject) (place_bytes t.property ++ place_bytes t.object)
     c.args.at _ _ c.args.out.now _ _
-    c.requires.room c.put-place-place.ensures c.put-places.ensures
+    c.requires.room c.put_place-place.ensures c.put_places.ensures

@@ -11,7 +11,7 @@ returns c = record {
   answer = subst₂
       (λ (dir : List DirectoryEntry) (pairs : List Pair). Leapt (among (table_triples dir pairs))
       c.args.position
-      c.args.selector c.args.bound c.leap-sections.result)
-      c.as-slice.ensures.value c.as-slice-2.ensures.value c.leap-sections.ensures;
+      c.args.selector c.args.bound c.leap_sections.result)
+      c.as_slice.ensures.value c.as_slice-2.ensures.value c.leap_sections.ensures;
   same = refl;
 }

@@ -5,12 +5,12 @@ use Rattle.triples.specs.Sections.{TableLawful}
 use Rattle.triples.proofs.Sections.{table_accepted}
 use Rattle.triples.proofs.property_store.PropertyStore.load.Goals as goal
 
-pub invariant-of-result : goal.invariant-of-result
-invariant-of-result c =
+pub invariant_of-result : goal.invariant_of-result
+invariant_of-result c =
     let lawful = subst₂
     (λ (dir : List DirectoryEntry) (pairs : List Pair). TableLawful c.args.top dir pairs)
-    c.as-slice.ensures.value c.as-slice-2.ensures.value
-    (table_accepted c.args.top c.as-slice.result.now c.as-slice-2.result.now
+    c.as_slice.ensures.value c.as_slice-2.ensures.value
+    (table_accepted c.args.top c.as_slice.result.now c.as_slice-2.result.now
     c.in-None.ensures) in
     let entries = lawful.limited.few_entries in
     let pairs = lawful.limited.few_pairs in

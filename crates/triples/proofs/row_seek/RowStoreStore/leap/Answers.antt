@@ -9,7 +9,7 @@ pub returns : goal.returns
 returns c = record {
   answer = subst
       (λ (ts : List Triple). Leapt (among ts) c.args.position c.args.selector c.args.bound
-      c.leap-in.result)
-      (map-id c.as-slice.result.now ∙ c.as-slice.ensures.value) c.leap-in.ensures;
+      c.leap_in.result)
+      (map-id c.as_slice.result.now ∙ c.as_slice.ensures.value) c.leap_in.ensures;
   same = refl;
 }

@@ -8,7 +8,7 @@ use Rattle.triples.proofs.row_seek.RowStoreStore.seek.Goals as goal
 pub returns : goal.returns
 returns c = record {
   answer = subst
-      (λ (ts : List Triple). Sought (among ts) c.args.selector c.args.start c.seek-in.result)
-      (map-id c.as-slice.result.now ∙ c.as-slice.ensures.value) c.seek-in.ensures;
+      (λ (ts : List Triple). Sought (among ts) c.args.selector c.args.start c.seek_in.result)
+      (map-id c.as_slice.result.now ∙ c.as_slice.ensures.value) c.seek_in.ensures;
   same = refl;
 }

@@ -4,10 +4,10 @@ use Rattle.triples.specs.Rows.{RowsLawful}
 use Rattle.triples.proofs.Rows.{rows_accepted}
 use Rattle.triples.proofs.row_store.RowStore.load.Goals as goal
 
-pub invariant-of-result : goal.invariant-of-result
-invariant-of-result c =
-    let lawful = subst (λ (ts : List Triple). RowsLawful c.args.top ts) c.as-slice.ensures.value
-    (rows_accepted c.args.top c.as-slice.result.now c.in-None.ensures) in
+pub invariant_of-result : goal.invariant_of-result
+invariant_of-result c =
+    let lawful = subst (λ (ts : List Triple). RowsLawful c.args.top ts) c.as_slice.ensures.value
+    (rows_accepted c.args.top c.as_slice.result.now c.in-None.ensures) in
     let few = lawful.limited.few in
     let len = c.args.rows.ok.0 in
     (lawful.limited.small, (omega (arith, few, len), (lawful.terms, (lawful.ordered, tt))))

@@ -5,7 +5,7 @@ use Rattle.triples.specs.Selectors.{select}
 use Rattle.triples.proofs.Seeks.{leapt_from_sought, passed_none, passed_more, passed_found, passed_all}
 use Rattle.triples.proofs.Seeks.{term_least, origin}
 use Rattle.triples.proofs.store.Store.leap.Given.{Over}
-use Rattle.triples.proofs.store.Store.leap.Goals.{After-is-some}
+use Rattle.triples.proofs.store.Store.leap.Goals.{After-is_some}
 use Rattle.triples.proofs.store.Store.leap.Goals as goal
 
 pub returns-in-Some : goal.returns-in-Some
@@ -24,13 +24,13 @@ loop-number-init g c =
     let m = g.Self.Store.meaning c.top-top.new.self in (
       refl,
       subst (λ k. (n : ℕ) → Offer m.has c.args.position c.args.selector c.args.bound n → k ≤ n)
-          (sym c.first-term-number.ensures)
+          (sym c.first_term-number.ensures)
           (passed_none m c.args.position c.args.selector c.args.bound
-          (sym c.in-default.ensures) (g.Self.Store.sound c.top-top.new.self)),
+          (sym c.in_default.ensures) (g.Self.Store.sound c.top-top.new.self)),
     )
 
 -- what the seek of the loop says of the store as it was when the loop began
-sought : (g : Over) (c : goal.After-is-some g)
+sought : (g : Over) (c : goal.After-is_some g)
     → Sought (g.Self.Store.meaning c.top-top.new.self).has
     (select c.args.selector c.args.position c.loop-number.number) origin c.seek.result
 sought g c =
@@ -38,10 +38,10 @@ sought g c =
     c.with.ensures
     c.seek.ensures.answer
 
-pub returns-then-is-some : goal.returns-then-is-some
-returns-then-is-some g c =
+pub returns-then-is_some : goal.returns-then-is_some
+returns-then-is_some g c =
     let least = term_least c.args.bound in
-    let first = c.first-term-number.ensures in
+    let first = c.first_term-number.ensures in
     let from = c.loop-number.auto.number in
     record {
       answer = subst
@@ -49,8 +49,8 @@ returns-then-is-some g c =
           c.loop-number.number) c.top-top.ensures.same
           (passed_found (g.Self.Store.meaning c.top-top.new.self) c.args.position
           c.args.selector
-          c.args.bound (sym c.in-default.ensures) c.loop-number.number c.seek.result
-          (sought g (goal.at.returns-then-is-some g c).After-is-some) c.if-is-some.ensures
+          c.args.bound (sym c.in_default.ensures) c.loop-number.number c.seek.result
+          (sought g (goal.at.returns-then-is_some g c).After-is_some) c.if-is_some.ensures
           (omega (arith, least.0, first, from)) (omega (arith, least.1, first, from))
           c.loop-number.invariant.1);
       same = c.seek.ensures.same ∙ c.loop-number.invariant.0 ∙ c.top-top.ensures.same;
@@ -60,8 +60,8 @@ pub loop-number-preserved : goal.loop-number-preserved
 loop-number-preserved g c = (
   c.seek.ensures.same ∙ c.loop-number.invariant.0,
   passed_more (g.Self.Store.meaning c.top-top.new.self) c.args.position c.args.selector
-      c.args.bound (sym c.in-default.ensures) c.loop-number.number c.seek.result
-      (sought g (goal.at.loop-number-preserved g c).After-is-some) c.if-is-some.ensures
+      c.args.bound (sym c.in_default.ensures) c.loop-number.number c.seek.result
+      (sought g (goal.at.loop-number-preserved g c).After-is_some) c.if-is_some.ensures
       c.loop-number.invariant.1,
 )
 
@@ -72,7 +72,7 @@ returns g c =
     let m = g.Self.Store.meaning c.args.self.now in
     record {
       answer = passed_all m c.args.position c.args.selector c.args.bound
-          (sym c.in-default.ensures) (g.Self.Store.sound c.args.self.now)
+          (sym c.in_default.ensures) (g.Self.Store.sound c.args.self.now)
           c.loop-number.number (omega (arith, top, past))
           (subst (λ (k : Meaning). (n : ℕ) → Offer k.has c.args.position c.args.selector
           c.args.bound n
