@@ -34,15 +34,15 @@ fits g c =
           c.put_number-place.new.out room c.put_number-place.ensures,
     )
 
-pub put_place-requires : goal.put_place-requires
-put_place-requires g c =
+pub put-place-requires : goal.put-place-requires
+put-place-requires g c =
     let xs = c.args.items.now in
     record {
       sound = subst g.T.Coded.sound (sym c.item-item.is)
           (All-get_or g.T.Coded.sound xs c.loop-item.item-index c.item-item.result
           c.loop-item-test.true c.requires.sound);
       room = room_next g.T.Coded.code xs c.put_number-place.new.out c.put_number-place.result
-          (fits g (goal.at.put_place-requires g c).After-put_number-place) c.loop-item.item-index
+          (fits g (goal.at.put-place-requires g c).After-put_number-place) c.loop-item.item-index
           c.item-item.result c.loop-item.out
           c.loop-item.place c.loop-item-test.true c.item-item.is c.loop-item.invariant;
     }
@@ -54,8 +54,8 @@ loop-item-preserved g c =
     (fits g (goal.at.loop-item-preserved g c).After-put_number-place) c.loop-item.item-index
     c.item-item.result c.loop-item.out
     c.loop-item.place c.loop-item-test.true c.item-item.is c.loop-item.invariant
-    c.put_place.new.out c.put_place.result
-    c.put_place.ensures
+    c.put-place.new.out c.put-place.result
+    c.put-place.ensures
 
 pub returns : goal.returns
 returns g c =

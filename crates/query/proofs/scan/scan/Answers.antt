@@ -13,13 +13,13 @@ returns-in_err-alternatives c h =
     (verdict_refused c.args.bytes.now e.refusal e.place
     (c.in_err-alternatives.ensures.answer h))
 
-pub returns-then-place_bytes : goal.returns-then-place_bytes
-returns-then-place_bytes c h =
+pub returns-then-place-bytes : goal.returns-then-place-bytes
+returns-then-place-bytes c h =
     let (q, (read, tracks)) = c.in_ok-alternatives.ensures.answer h in
     let at = c.alternatives.new.self.at in
     verdict_left c.args.bytes.now q at
     (read ∙ ap (λ b. took q at (drop at b.now)) c.alternatives.ensures.same)
-    c.if-place_bytes.true
+    c.if-place-bytes.true
 
 pub returns-then-builder : goal.returns-then-builder
 returns-then-builder c h =
@@ -27,7 +27,7 @@ returns-then-builder c h =
     let at = c.alternatives.new.self.at in
     verdict_shared c.args.bytes.now q at
     (read ∙ ap (λ b. took q at (drop at b.now)) c.alternatives.ensures.same)
-    c.if-place_bytes.false (sym tracks.shared ∙ c.if-builder.true)
+    c.if-place-bytes.false (sym tracks.shared ∙ c.if-builder.true)
 
 pub returns : goal.returns
 returns c h =
@@ -37,7 +37,7 @@ returns c h =
       (
         verdict_accepted c.args.bytes.now q at
             (read ∙ ap (λ b. took q at (drop at b.now)) c.alternatives.ensures.same)
-            c.if-place_bytes.false (sym tracks.shared ∙ c.if-builder.false),
+            c.if-place-bytes.false (sym tracks.shared ∙ c.if-builder.false),
         tracks,
       ),
     )

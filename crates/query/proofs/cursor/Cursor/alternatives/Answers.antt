@@ -27,7 +27,7 @@ returns-in_err-alternative c =
           ∙ c.in_err-alternative.ensures.answer f.items f.held.tracks in
           takes_refused _ _ _ _ p.0 c.in_err-alternative.field-0.0 p.1 p.2
           (sofar_stopped alternative with_group with_groups c.in_ok-count.count
-          c.loop-number.-number c.count.new.self here _ f
+          c.loop-number._number c.count.new.self here _ f
           1 most_alternatives c.args.self.now c.in_ok-count.ensures.answer _ _
           c.loop-number-test.true stopped);
       same = c.alternative.ensures.same ∙ c.loop-number.invariant.0 ∙ c.count.ensures.same;
@@ -42,7 +42,7 @@ loop-number-preserved c =
           let (g, (read, came)) = c.in_ok-alternative.ensures.answer f.items
           f.held.tracks in
           sofar_more alternative with_group with_groups c.in_ok-count.count
-          c.loop-number.-number c.count.new.self here _ f
+          c.loop-number._number c.count.new.self here _ f
           g c.alternative.new.self _ c.loop-number-test.true
           (ap (λ v. ahead (alternative v) here) (sym f.held.used) ∙ read)
           (groups_push f.items g)
@@ -59,7 +59,7 @@ returns c = record {
         f.items,
         (
           sofar_all alternative with_group with_groups c.in_ok-count.count
-              c.loop-number.-number c.count.new.self
+              c.loop-number._number c.count.new.self
               c.loop-number.self _ f 1 most_alternatives c.args.self.now
               c.in_ok-count.ensures.answer c.loop-number-test.false,
           f.held.tracks,

@@ -10,5 +10,5 @@ abbrev pub invariant-loop-number : goal.invariant-loop-number
 invariant-loop-number l =
     (l.self.bytes ≡ l.initial.self.bytes)
     × (Holds l.initial.builder (finished [] [] []) unused
-    → Sofar alternative with_group with_groups l.count l.-number l.initial.self l.self
+    → Sofar alternative with_group with_groups l.count l._number l.initial.self l.self
     (λ q. Holds l.builder (finished q [] []) (with_groups q)))

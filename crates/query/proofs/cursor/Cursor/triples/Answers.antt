@@ -34,7 +34,7 @@ returns-in_err-triple c =
       answer = λ d h.
           takes_refused _ _ _ _ p.0 c.in_err-triple.field-0.0 p.1 p.2
           (sofar_stopped (λ (_ : ℕ). triple) (λ i _. i + 1) length c.in_ok-count.count
-          c.loop-number.-number
+          c.loop-number._number
           c.count.new.self c.loop-number.self _ (c.loop-number.invariant.2 d h) c.args.least
           (room c.args.builder.now.triples) s at_count _ _ c.loop-number-test.true
           c.in_err-triple.ensures.answer);
@@ -45,7 +45,7 @@ pub loop-number-preserved : goal.loop-number-preserved
 loop-number-preserved c =
     let b = c.args.builder.now in
     let u = used_of b in
-    let n = c.loop-number.-number in
+    let n = c.loop-number._number in
     let t = c.in_ok-triple.triple in
     let used = c.triple-in-loop-number.ensures.used
     ∙ ap (λ v. with_triples v 1) c.loop-number.invariant.1

@@ -11,8 +11,8 @@ use Rattle.query.proofs.cursor.Cursor.triples.Given as goal
 abbrev pub invariant-loop-number : goal.invariant-loop-number
 invariant-loop-number l =
     (l.self.bytes ≡ l.initial.self.bytes)
-    × (used_of l.builder ≡ with_triples (used_of l.initial.builder) l.-number)
+    × (used_of l.builder ≡ with_triples (used_of l.initial.builder) l._number)
     × ((d : Draft) → Tracks l.initial.builder d
-    → Sofar (λ (_ : ℕ). triple) (λ i _. i + 1) length l.count l.-number l.initial.self l.self
+    → Sofar (λ (_ : ℕ). triple) (λ i _. i + 1) length l.count l._number l.initial.self l.self
     (λ ts. Holds l.builder (with_triples_in d ts)
     (with_triples (used_of l.initial.builder) (length ts))))

@@ -23,7 +23,7 @@ put_list-requires c =
     record {
       few = w.0;
       sound = w.1;
-      room = omega (arith, ap length same, q.decreases);
+      room = omega (arith, ap length same, q.measured);
     }
 
 pub returns : goal.returns
@@ -33,4 +33,4 @@ returns c =
     ∙ counted-map group_of group_bytes (vec_items q.alternatives) in
     let put = subst (λ l. Put l 0 c.args.out.now c.put_list.result c.put_list.new.out) same
     c.put_list.ensures in
-    (omega (arith, q.decreases), omega (arith, put.0), put.1)
+    (omega (arith, q.measured), omega (arith, put.0), put.1)
