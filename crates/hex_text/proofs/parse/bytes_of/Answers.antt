@@ -5,7 +5,7 @@ use Rattle.hex_text.proofs.parse.bytes_of.Goals as goal
 
 pub loop-at-preserved-in-Some : goal.loop-at-preserved-in-Some
 loop-at-preserved-in-Some c =
-    subst (Gathered c.args.text.now (c.loop-at.at + 2)) (sym c.in_ok-push.ensures.items)
+    subst (Gathered c.args.text.now (c.loop-at.at + 2)) (sym c.in_ok-push-in-Some.ensures.items)
     (gathered_byte c.loop-at.invariant _ (sym c.in-Some.ensures))
 
 pub loop-at-preserved : goal.loop-at-preserved
