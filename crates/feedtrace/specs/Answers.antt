@@ -5,8 +5,7 @@ use Rattle.query.specs.declared.inspect.Counts as inspect
 use Rattle.refusal.specs.declared.rejection.Rejection.{Rejection}
 use Rattle.refusal.specs.Numbers.{published}
 use Rattle.feedtrace.specs.declared.answer.Answer.{Answer}
-use Rattle.feedtrace.specs.declared.answer.Answer.TheVariants.{Nothing, Counts, Refused, Bytes, Shown, Task}
-use Rattle.feedtrace.specs.declared.answer.Answer.TheVariants.{Error}
+use Rattle.feedtrace.specs.declared.answer.Answer.TheVariants.{Nothing, Counts, Refused, Bytes, Shown, Error}
 
 -- how much a query holds
 abbrev pub counts_line : inspect.Counts → List ℕ
@@ -24,13 +23,11 @@ refused_line r =
 abbrev pub bytes_line : List ℕ → List ℕ
 bytes_line bs = codes "bytes: " ++ text_of bs
 
--- the line of an answer: nothing for an answer that has none; the words of an error and of a task are left
--- open
+-- the line of an answer: nothing for an answer that has none; the words of an error are left open
 abbrev pub line_of : Answer → Option (List ℕ)
 line_of Nothing = Some []
 line_of (Counts c) = Some (counts_line c)
 line_of (Refused r) = Some (refused_line r)
 line_of (Bytes v) = Some (bytes_line (vec_items v))
 line_of Shown = Some []
-line_of (Task o) = None
 line_of (Error e) = None

@@ -7,26 +7,17 @@ use Rattle.feedtrace.specs.declared.command.Command as commands
 use Rattle.feedtrace.specs.declared.command.Command.TheVariants as command
 use Rattle.feedtrace.specs.declared.expected.Expected.{Expected}
 use Rattle.feedtrace.specs.declared.expected.Expected.TheVariants as expected
-use Rattle.feedtrace.specs.declared.task.Task.{Task}
 use Rattle.feedtrace.specs.declared.verb.Verb.{Verb}
 use Rattle.feedtrace.specs.declared.verb.Verb.TheVariants.{Absent, Query, Write, Show, Other}
-use Rattle.feedtrace.specs.declared.verb.Verb.TheVariants as verb
-use Rattle.feedtrace.specs.Forms.{task_form}
-use Rattle.feedtrace.specs.Numerals.{number_from}
+use Rattle.feedtrace.specs.Lengths.{length_from}
 use Rattle.feedtrace.specs.Words.{after_word, trimmed, unindented, verb_of, word}
 
--- the greatest length of a buffer that a command may give
-abbrev pub most_length : ℕ
-most_length = 1000000
-
--- what a line can ask: nothing, a query by its bytes, its writing, its listing, a task; or what was expected
--- of it
+-- what a line can ask: nothing, a query by its bytes, its writing, its listing; or what was expected of it
 pub data Request : Type 0 where
   nothing : Request
   query : List ℕ → Request
   write : ℕ → Request
   show : Request
-  task : Task → Request
   wrong : Expected → Request
 
 -- a query of the bytes, if there are any
@@ -44,30 +35,13 @@ abbrev pub show_before : List ℕ → Request
 show_before [] = show
 show_before (c ∷ _) = wrong expected.LineEnd
 
--- the task, if it has its form
-abbrev pub formed : Verb → Option Task → Request
-formed v None = wrong (expected.Form v)
-formed v (Some c) = task c
-
 -- what a verb with such a rest of the line asks
 abbrev pub asked_by : Verb → List ℕ → Request
 asked_by Absent rest = nothing
 asked_by Query rest = query_of (read_text rest)
-asked_by Write rest = write_at (number_from most_length (unindented rest))
+asked_by Write rest = write_at (length_from (unindented rest))
 asked_by Show rest = show_before rest
 asked_by Other rest = wrong expected.Command
-asked_by verb.RowStore rest = formed verb.RowStore (task_form verb.RowStore rest)
-asked_by verb.PropertyStore rest = formed verb.PropertyStore (task_form verb.PropertyStore rest)
-asked_by verb.Catalogue rest = formed verb.Catalogue (task_form verb.Catalogue rest)
-asked_by verb.Inverse rest = formed verb.Inverse (task_form verb.Inverse rest)
-asked_by verb.Withdrawn rest = formed verb.Withdrawn (task_form verb.Withdrawn rest)
-asked_by verb.Withdraw rest = formed verb.Withdraw (task_form verb.Withdraw rest)
-asked_by verb.Restore rest = formed verb.Restore (task_form verb.Restore rest)
-asked_by verb.Seek rest = formed verb.Seek (task_form verb.Seek rest)
-asked_by verb.Leap rest = formed verb.Leap (task_form verb.Leap rest)
-asked_by verb.Lookup rest = formed verb.Lookup (task_form verb.Lookup rest)
-asked_by verb.Scan rest = formed verb.Scan (task_form verb.Scan rest)
-asked_by verb.Trace rest = formed verb.Trace (task_form verb.Trace rest)
 
 -- what a line without white space at its ends asks
 abbrev pub asked_plainly : List ℕ → Request
@@ -87,5 +61,4 @@ Meets m command.Nothing = m ≡ nothing
 Meets m (command.Query v) = m ≡ query (vec_items v)
 Meets m (command.Write n) = m ≡ write n
 Meets m command.Show = m ≡ show
-Meets m (command.Task c) = m ≡ task c
 Meets m (command.Malformed e) = Fails m e

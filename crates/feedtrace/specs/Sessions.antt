@@ -1,7 +1,7 @@
 -- What a session's step answers, and what is current behind it. Assumes nothing.
 --     current s       the current query, by its alternatives; none where there is none
 --     Steps s c r t   from the session s, the command c is answered by r and leaves the session t
-use Rattle.std.specs.Prelude.{◌≡◌, ℕ, ◌<◌, ◌≤◌, ◌⊎◌, List, length, Some, None, Ok, Err, vec_items, Option, Result, Vec, MatchOption}
+use Rattle.std.specs.Prelude.{◌≡◌, ℕ, ◌<◌, ◌≤◌, ◌⊎◌, List, length, Some, None, Ok, Err, vec_items, Option, Result, Vec}
 use Rattle.std.specs.Option.{option_map}
 use Rattle.refusal.specs.declared.refusal.Refusal.TheVariants.{BufferShort}
 use Rattle.refusal.specs.declared.rejection.Rejection.{Rejection}
@@ -11,16 +11,11 @@ use Rattle.query.specs.Grammar.{accepted, rejected, verdict}
 use Rattle.query.specs.Parts.{Group}
 use Rattle.query.specs.Shape.{shape, counts_of}
 use Rattle.feedtrace.specs.declared.answer.Answer.{Answer}
-use Rattle.feedtrace.specs.declared.answer.Answer.TheVariants.{Nothing, Counts, Refused, Bytes, Shown, Task}
-use Rattle.feedtrace.specs.declared.answer.Answer.TheVariants.{Error}
+use Rattle.feedtrace.specs.declared.answer.Answer.TheVariants.{Nothing, Counts, Refused, Bytes, Shown, Error}
 use Rattle.feedtrace.specs.declared.command.Command.{Command}
 use Rattle.feedtrace.specs.declared.command.Command.TheVariants as command
 use Rattle.feedtrace.specs.declared.expected.Expected.TheVariants as expected
 use Rattle.feedtrace.specs.declared.session.Session.{Session}
-use Rattle.feedtrace.specs.Does.{Does}
-use Rattle.feedtrace.specs.Lines.{TableLine}
-use Rattle.feedtrace.specs.Requests.{asked, Meets}
-use Rattle.feedtrace.specs.Words.{trimmed}
 
 -- the current query, by its alternatives
 abbrev pub current : Session → Option (List Group)
@@ -37,7 +32,6 @@ Took bytes s (Error e) t =
 Took bytes s Nothing t = ⊥
 Took bytes s (Bytes v) t = ⊥
 Took bytes s Shown t = ⊥
-Took bytes s (Task o) t = ⊥
 
 -- the current query was asked to be written into a buffer of n bytes: its bytes; or the refusal of a short
 -- buffer; or there is no current query, or no memory for the buffer
@@ -53,7 +47,6 @@ Wrote n s (Error e) =
 Wrote n s Nothing = ⊥
 Wrote n s (Counts c) = ⊥
 Wrote n s Shown = ⊥
-Wrote n s (Task o) = ⊥
 
 -- the current query was asked to be shown: there is one, or there is none
 abbrev pub Showed : Session → Answer → Type 0
@@ -63,7 +56,6 @@ Showed s Nothing = ⊥
 Showed s (Counts c) = ⊥
 Showed s (Refused e) = ⊥
 Showed s (Bytes v) = ⊥
-Showed s (Task o) = ⊥
 
 -- the answer to a command, and the session behind it
 abbrev pub Steps : Session → Command → Answer → Session → Type 0
@@ -71,15 +63,7 @@ Steps s command.Nothing r t = (r ≡ Nothing) × (t ≡ s)
 Steps s (command.Query v) r t = Took (vec_items v) s r t
 Steps s (command.Write n) r t = Wrote n s r × (t ≡ s)
 Steps s command.Show r t = Showed s r × (t ≡ s)
-Steps s (command.Task c) r t = Does c s r t
 Steps s (command.Malformed e) r t = (r ≡ Error e) × (t ≡ s)
-
--- the answer to a line, and the session behind it: a line of the table that is being read, or else the
--- command that the line asks
-abbrev pub Answered : List ℕ → Session → Answer → Session → Type 0
-Answered line s r t =
-    MatchOption s.loading ((c : Command) × (Meets (asked line) c × Steps s c r t))
-    (λ _. TableLine (trimmed line) s r t)
 
 -- a buffer of n bytes was filled by the query: its bytes, or the refusal of a short buffer
 abbrev pub Filled : {E Z : Type 0} → queries.Query → ℕ → Result (Result (Vec ℕ Z) Rejection) E → Type 0

@@ -9,10 +9,6 @@ use Rattle.std.specs.Str.{bytes_eq}
 use Rattle.hex_text.specs.Characters.{space}
 use Rattle.feedtrace.specs.declared.verb.Verb.{Verb}
 use Rattle.feedtrace.specs.declared.verb.Verb.TheVariants.{Absent, Query, Write, Show, Other}
-use Rattle.feedtrace.specs.declared.verb.Verb.TheVariants.{RowStore, PropertyStore, Catalogue, Inverse}
-use Rattle.feedtrace.specs.declared.verb.Verb.TheVariants.{Withdrawn}
-use Rattle.feedtrace.specs.declared.verb.Verb.TheVariants.{Withdraw, Restore, Seek, Leap, Lookup, Scan}
-use Rattle.feedtrace.specs.declared.verb.Verb.TheVariants.{Trace}
 
 -- what a remark begins with
 abbrev pub remark : ℕ
@@ -51,30 +47,10 @@ abbrev pub absent : List ℕ → Bool
 absent [] = true
 absent (c ∷ _) = c == remark
 
--- what the word w asks of the store or the catalogue
-abbrev pub question_verb : List ℕ → Verb
-question_verb w =
-    cond (bytes_eq w (codes "seek")) Seek
-    (cond (bytes_eq w (codes "leap")) Leap
-    (cond (bytes_eq w (codes "lookup")) Lookup
-    (cond (bytes_eq w (codes "scan")) Scan
-    (cond (bytes_eq w (codes "trace")) Trace Other))))
-
--- what the word w says of tables and layers
-abbrev pub table_verb : List ℕ → Verb
-table_verb w =
-    cond (bytes_eq w (codes "row-store")) RowStore
-    (cond (bytes_eq w (codes "property-store")) PropertyStore
-    (cond (bytes_eq w (codes "catalogue")) Catalogue
-    (cond (bytes_eq w (codes "inverse")) Inverse
-    (cond (bytes_eq w (codes "withdrawn")) Withdrawn
-    (cond (bytes_eq w (codes "withdraw")) Withdraw
-    (cond (bytes_eq w (codes "restore")) Restore (question_verb w)))))))
-
 -- what the word w says
 abbrev pub verb_of : List ℕ → Verb
 verb_of w =
     cond (absent w) Absent
     (cond (bytes_eq w (codes "query")) Query
     (cond (bytes_eq w (codes "write")) Write
-    (cond (bytes_eq w (codes "show")) Show (table_verb w))))
+    (cond (bytes_eq w (codes "show")) Show Other)))

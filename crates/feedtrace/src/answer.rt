@@ -3,7 +3,6 @@ ghost use Rattle.std.specs.Fmt.{WritesOnOk};
 ghost use Rattle.feedtrace.specs.Answers.{bytes_line, counts_line, line_of, refused_line};
 
 use crate::expected::Expected;
-use crate::outcome::Outcome;
 use hex_text::text::HexText;
 use query::inspect::Counts;
 use refusal::rejection::Rejection;
@@ -23,8 +22,6 @@ pub enum Answer {
     Bytes(Vec<u8>),
     /// The current query is to be shown, in place of a line.
     Shown,
-    /// What the task came to.
-    Task(Outcome),
     /// The command cannot be carried out.
     Error(Expected),
 }
@@ -38,7 +35,6 @@ impl fmt::Display for Answer {
             Answer::Counts(counts) => put_counts(*counts, f),
             Answer::Refused(rejection) => put_rejection(*rejection, f),
             Answer::Bytes(bytes) => put_bytes(bytes.as_slice(), f),
-            Answer::Task(outcome) => write!(f, "{outcome}"),
             Answer::Error(expected) => write!(f, "error: expected {expected}"),
         }
     }

@@ -1,15 +1,11 @@
 //! What the lines of the console ask.
 ghost use Rattle.hex_text.specs.Reading.{read_text};
-ghost use Rattle.feedtrace.specs.Numerals.{number_from};
-ghost use Rattle.feedtrace.specs.Forms.{task_form};
-ghost use Rattle.feedtrace.specs.Requests.{most_length, asked, formed, query_of, write_at, show_before};
-ghost use Rattle.feedtrace.specs.Requests.{Meets};
+ghost use Rattle.feedtrace.specs.Lengths.{length_from};
+ghost use Rattle.feedtrace.specs.Requests.{asked, query_of, write_at, show_before, Meets};
 
-use crate::expected::{Expected, MOST_LENGTH};
-use crate::grammar::task_of;
+use crate::expected::Expected;
+use crate::length::length_of;
 use crate::line::{split_word, trim, trim_start};
-use crate::number::number_of;
-use crate::task::Task;
 use crate::verb::Verb;
 use hex_text::parse;
 use hex_text::parse::ParseError;
@@ -26,8 +22,6 @@ pub enum Command {
     Write(u32),
     /// Shows the current query as a person reads it.
     Show,
-    /// Does something with tables, layers, or what they hold.
-    Task(Task),
     /// Nothing that can be carried out: the line lacks what is expected.
     Malformed(Expected),
 }
@@ -46,17 +40,6 @@ impl Command {
             Verb::Write => Command::write(trim_start(rest)),
             Verb::Show => Command::show(rest),
             Verb::Other => Command::Malformed(Expected::Command),
-            verb => Command::in_form(verb, rest),
-        }
-    }
-
-    /// The task of the word, if what follows it is of the task's form.
-    fn in_form(verb: Verb, text: &[u8]) -> Command
-        ensures { Meets (formed verb (task_form verb text.now)) result }
-    {
-        match task_of(verb, text) {
-            Some(task) => Command::Task(task),
-            None => Command::Malformed(Expected::Form(verb)),
         }
     }
 
@@ -73,9 +56,9 @@ impl Command {
 
     /// The writing at the length that follows the word.
     fn write(text: &[u8]) -> Command
-        ensures { Meets (write_at (number_from most_length text.now)) result }
+        ensures { Meets (write_at (length_from text.now)) result }
     {
-        match number_of(text, MOST_LENGTH) {
+        match length_of(text) {
             Some(length) => Command::Write(length),
             None => Command::Malformed(Expected::Length),
         }

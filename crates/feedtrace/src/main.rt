@@ -2,36 +2,19 @@
 #![tactic(auto)]
 
 mod answer;
-mod ask;
-mod book;
-mod carry;
-mod change;
 mod command;
 mod expected;
-mod field;
 mod filter;
-mod form;
-mod grammar;
-mod lay;
-mod layered;
+mod length;
 mod line;
 mod listing;
-mod load;
-mod loading;
-mod number;
-mod outcome;
-mod read_line;
 mod reply;
 mod session;
 mod step;
-mod table;
-mod table_line;
-mod table_step;
-mod task;
-mod told;
 mod triple;
 mod verb;
 
+use command::Command;
 use session::Session;
 use std::io::{BufRead, BufReader};
 
@@ -41,11 +24,8 @@ fn run(rt: &HostRuntime) -> anyhow::Result<()> {
     let mut session = Session::new();
     for line in BufReader::new(heap, rt.stdin())?.split(heap, b'\n') {
         let line = line?;
-        let answer = session.answer(heap, line.as_slice());
+        let answer = session.step(heap, Command::parse(heap, line.as_slice()));
         rt.print(session.reply(&answer))?;
-        if let Some(lines) = session.progress() {
-            eprintln!(rt; "{lines} lines of the table read")?;
-        }
     }
     Ok(())
 }

@@ -2,16 +2,13 @@
 ghost use Rattle.std.specs.Prelude.{◌≡◌, [], map, None};
 ghost use Rattle.std.specs.Option.{unwrap_or};
 ghost use Rattle.query.specs.Parts.{group_of};
-ghost use Rattle.feedtrace.specs.Sessions.{current, Took, Wrote, Showed, Steps, Answered, Filled};
+ghost use Rattle.feedtrace.specs.Sessions.{current, Took, Wrote, Showed, Steps, Filled};
 
 use crate::answer::Answer;
-use crate::book::Book;
 use crate::command::Command;
 use crate::expected::Expected;
-use crate::line::trim;
 use crate::reply::Reply;
 use crate::session::Session;
-use catalogue::inline::Inline;
 use query::error::ReadError;
 use query::query::Query;
 use query::read;
@@ -23,27 +20,12 @@ impl Session {
     pub(crate) fn new() -> Session
         ensures { current result ≡ None }
     {
-        Session {
-            query: None,
-            store: None,
-            book: Book::Inline(Inline),
-            loading: None,
-        }
+        Session { query: None }
     }
 
-    /// Answers a line: a line of the table that is being read, or else a command.
-    pub fn answer(&mut self, heap: Global, line: &[u8]) -> Answer
-        ensures { Answered line.now self.old result self.new }
-    {
-        if self.loading.is_some() {
-            self.table_line(trim(line))
-        } else {
-            self.step(heap, Command::parse(heap, line))
-        }
-    }
-
-    /// Carries out the command and answers it. A refusal or an error leaves the session as it was.
-    fn step(&mut self, heap: Global, command: Command) -> Answer
+    /// Carries out the command and answers it. A refusal or an error leaves the session as it was, and so
+    /// does every command but a query that is read.
+    pub fn step(&mut self, heap: Global, command: Command) -> Answer
         ensures { Steps self.old command result self.new }
     {
         match command {
@@ -52,7 +34,6 @@ impl Session {
             Command::Write(length) => self.write(heap, length),
             Command::Show => self.show(),
             Command::Malformed(expected) => Answer::Error(expected),
-            Command::Task(task) => self.carry_out(heap, task),
         }
     }
 

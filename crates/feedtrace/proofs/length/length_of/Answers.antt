@@ -1,15 +1,15 @@
--- Each digit takes the number further, something else or too great a number decides it.
+-- Each digit takes the length further, something else or too great a number decides it.
 use Rattle.std.proofs.Common.{sym, ◌∙◌, arith}
-use Rattle.feedtrace.proofs.Numerals.{counted_all, counted_great, counted_more, counted_other}
-use Rattle.feedtrace.proofs.number.number_of.Goals as goal
+use Rattle.feedtrace.proofs.Lengths.{counted_all, counted_great, counted_more, counted_other}
+use Rattle.feedtrace.proofs.length.length_of.Goals as goal
 
 pub returns-in_err-number : goal.returns-in_err-number
 returns-in_err-number c =
     c.from_residual.ensures
     ∙ sym (counted_other c.loop-c.invariant (omega arith) (sym c.in_err-number.ensures))
 
-pub returns-then-number_from : goal.returns-then-number_from
-returns-then-number_from c =
+pub returns-then-number-gt-MOST_LENGTH : goal.returns-then-number-gt-MOST_LENGTH
+returns-then-number-gt-MOST_LENGTH c =
     sym (counted_great c.loop-c.invariant c.in_ok-number.field-0 (omega arith)
     (sym c.in_ok-number.ensures) (omega arith))
 
