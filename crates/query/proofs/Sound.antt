@@ -3,8 +3,8 @@
 use Rattle.std.proofs.Common.{◌≡◌, ℕ, ◌+◌, ◌≤◌, Bool, true, ◌&&◌, List, [], ◌∷◌, ◌++◌, map, length, sym, refl, ap, ◌∙◌, arith}
 use Rattle.std.proofs.lemmas.List.{length-map}
 use Rattle.std.proofs.lemmas.Bool.{and_parts}
-use Rattle.std.proofs.ByRecursion.{Decides-by_and}
-use Rattle.std.specs.List.{flat_map, AllByRecursion as All}
+use Rattle.std.proofs.lemmas.List.Elements.{All-nil, All-cons}
+use Rattle.std.specs.List.{flat_map, All}
 use Rattle.varint.specs.Encode.{encode, largest}
 use Rattle.query.specs.declared.node.Node.{Node}
 use Rattle.query.specs.declared.node.Node.TheVariants.{Equal, Less, Bound, Not, And, Or}
@@ -23,8 +23,10 @@ Writable ok xs = (length xs ≤ largest) × All (λ x. ok x ≡ true) xs
 -- every
 
 all_every : {A : Type 0} (ok : A → Bool) (xs : List A) → every ok xs ≡ true → All (λ x. ok x ≡ true) xs
-all_every ok xs h =
-    (Decides-by_and ok (λ x. ok x ≡ true) (every ok) (λ x. (λ e. e, λ e. e)) refl (λ _ _. refl) xs).0 h
+all_every ok [] h = All-nil (λ x. ok x ≡ true)
+all_every ok (x ∷ xs) h =
+    let w = and_parts (ok x) (every ok xs) h in
+    All-cons (λ x. ok x ≡ true) x xs w.0 (all_every ok xs w.1)
 
 every_map : {A B : Type 0} (f : A → B) (ok : B → Bool) (xs : List A)
     → every ok (map f xs) ≡ every (λ x. ok (f x)) xs
@@ -53,10 +55,10 @@ node_places i (And a b) h = refl
 node_places i (Or a b) h = refl
 
 nodes_places : (i : ℕ) (ns : List Node) → lawful_nodes i ns ≡ true → All (λ n. places_lawful n ≡ true) ns
-nodes_places i [] h = tt
+nodes_places i [] h = All-nil (λ n. places_lawful n ≡ true)
 nodes_places i (n ∷ ns) h =
     let w = and_parts (lawful_node i n) (lawful_nodes (i + 1) ns) h in
-    (node_places i n w.0, nodes_places (i + 1) ns w.1)
+    All-cons (λ n. places_lawful n ≡ true) n ns (node_places i n w.0) (nodes_places (i + 1) ns w.1)
 
 pub filter_writable : (ns : List Node) → lawful_filter ns ≡ true → Writable places_lawful ns
 filter_writable ns h =

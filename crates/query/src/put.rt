@@ -1,6 +1,5 @@
 //! Writing the parts of a query at a place of a buffer.
-ghost use Rattle.std.specs.Prelude.{◌≡◌, ℕ, ◌+◌, ◌≤◌, true, List, ◌++◌, length};
-ghost use Rattle.std.specs.List.{AllByRecursion as All};
+ghost use Rattle.std.specs.Prelude.{◌≡◌, ℕ, ◌+◌, ◌≤◌, true, List, ◌++◌, length, All};
 ghost use Rattle.varint.specs.Encode.{encode, largest};
 ghost use Rattle.query.specs.Limits.{lawful_place};
 ghost use Rattle.query.specs.Format.{counted, place_bytes};

@@ -1,5 +1,4 @@
 use Rattle.std.proofs.Common.{◌+◌, ◌≤◌, length, sym, subst, arith}
-use Rattle.std.proofs.ByRecursion.{All-get_or}
 use Rattle.std.proofs.lemmas.List.{length-append}
 use Rattle.std.specs.List.{flat_map}
 use Rattle.varint.specs.Encode.{encode}
@@ -39,8 +38,7 @@ put-place-requires g c =
     let xs = c.args.items.now in
     record {
       sound = subst g.T.Coded.sound (sym c.item-item.is)
-          (All-get_or g.T.Coded.sound xs c.loop-item.item-index c.item-item.result
-          c.loop-item-test.true c.requires.sound);
+          (c.requires.sound c.loop-item.item-index c.item-item.result c.loop-item-test.true);
       room = room_next g.T.Coded.code xs c.put_number-place.new.out c.put_number-place.result
           (fits g (goal.at.put-place-requires g c).After-put_number-place) c.loop-item.item-index
           c.item-item.result c.loop-item.out
