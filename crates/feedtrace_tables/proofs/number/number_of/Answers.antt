@@ -8,8 +8,8 @@ returns-in_err-number c =
     c.from_residual.ensures
     ∙ sym (counted_other c.loop-c.invariant (omega arith) (sym c.in_err-number.ensures))
 
-pub returns-then-number_from : goal.returns-then-number_from
-returns-then-number_from c =
+pub returns-then-number-from : goal.returns-then-number-from
+returns-then-number-from c =
     sym (counted_great c.loop-c.invariant c.in_ok-number.field-0 (omega arith)
     (sym c.in_ok-number.ensures) (omega arith))
 

@@ -8,7 +8,7 @@ pub returns-in-Ok : goal.returns-in-Ok
 returns-in-Ok c =
     let bytes = bytes_of (shape c.args.query.now) in
     let wrote = c.in-Ok.ensures in
-    let made = c.in_ok-buffer.ensures.made in
+    let made = c.in_ok-buffer.ensures.len in
     let room : length bytes
     ≤ c.in_ok-buffer.buffer.len = omega (arith, wrote.0, c.as_mut_slice.ensures.len) in (
       omega (arith, room, made),

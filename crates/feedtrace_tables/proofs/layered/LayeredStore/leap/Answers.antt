@@ -17,25 +17,25 @@ pub returns-in-Inverse : goal.returns-in-Inverse
 returns-in-Inverse c = record {
   answer = subst
       (λ (s : Layered). Leapt (layered_meaning s).has c.args.position c.args.selector
-      c.args.bound c.leap_in-Inverse.result)
-      (sym c.in-Inverse.is) c.leap_in-Inverse.ensures.answer;
-  same = c.leap_in-Inverse.ensures.same ∙ ap layered_meaning (sym c.in-Inverse.is);
+      c.args.bound c.leap-in-Inverse.result)
+      (sym c.in-Inverse.is) c.leap-in-Inverse.ensures.answer;
+  same = c.leap-in-Inverse.ensures.same ∙ ap layered_meaning (sym c.in-Inverse.is);
 }
 
 pub returns-in-Withdrawn : goal.returns-in-Withdrawn
 returns-in-Withdrawn c = record {
   answer = subst
       (λ (s : Layered). Leapt (layered_meaning s).has c.args.position c.args.selector
-      c.args.bound c.leap_in-Withdrawn.result)
-      (sym c.in-Withdrawn.is) c.leap_in-Withdrawn.ensures.answer;
-  same = c.leap_in-Withdrawn.ensures.same ∙ ap layered_meaning (sym c.in-Withdrawn.is);
+      c.args.bound c.leap-in-Withdrawn.result)
+      (sym c.in-Withdrawn.is) c.leap-in-Withdrawn.ensures.answer;
+  same = c.leap-in-Withdrawn.ensures.same ∙ ap layered_meaning (sym c.in-Withdrawn.is);
 }
 
 pub returns-in-Both : goal.returns-in-Both
 returns-in-Both c = record {
   answer = subst
       (λ (s : Layered). Leapt (layered_meaning s).has c.args.position c.args.selector
-      c.args.bound c.leap_in-Both.result)
-      (sym c.in-Both.is) c.leap_in-Both.ensures.answer;
-  same = c.leap_in-Both.ensures.same ∙ ap layered_meaning (sym c.in-Both.is);
+      c.args.bound c.leap-in-Both.result)
+      (sym c.in-Both.is) c.leap-in-Both.ensures.answer;
+  same = c.leap-in-Both.ensures.same ∙ ap layered_meaning (sym c.in-Both.is);
 }

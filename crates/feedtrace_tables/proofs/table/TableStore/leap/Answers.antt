@@ -17,7 +17,7 @@ pub returns-in-Properties : goal.returns-in-Properties
 returns-in-Properties c = record {
   answer = subst
       (λ (s : Table). Leapt (table_meaning s).has c.args.position c.args.selector c.args.bound
-      c.leap_in-Properties.result)
-      (sym c.in-Properties.is) c.leap_in-Properties.ensures.answer;
-  same = c.leap_in-Properties.ensures.same ∙ ap table_meaning (sym c.in-Properties.is);
+      c.leap-in-Properties.result)
+      (sym c.in-Properties.is) c.leap-in-Properties.ensures.answer;
+  same = c.leap-in-Properties.ensures.same ∙ ap table_meaning (sym c.in-Properties.is);
 }
