@@ -1,7 +1,6 @@
 //! Two stores that answer the same, whatever is asked.
 use crate::stores::{number_of, numbers_of};
 use std::process::Abort;
-use std::test::Fail;
 use triples::position::Position;
 use triples::selector::Selector;
 use triples::store::Store;
@@ -43,12 +42,13 @@ fn leaps_agree<A: Store, B: Store>(one: &mut A, other: &mut B, selector: Selecto
     true
 }
 
-/// Whether both answer the same for every selector, and have the same top.
+/// Both answer the same for every selector, and have the same top.
 pub(crate) fn agree<A: Store, B: Store>(
     rt: &impl Abort,
+    name: &str,
     one: &mut A,
     other: &mut B,
-) -> Result<(), Fail> {
+) {
     for subject in NUMBERS {
         for property in NUMBERS {
             for object in NUMBERS {
@@ -57,11 +57,10 @@ pub(crate) fn agree<A: Store, B: Store>(
                     property,
                     object,
                 };
-                assert!(rt; seeks_agree(one, other, selector), "seek");
-                assert!(rt; leaps_agree(one, other, selector), "leap");
+                assert!(rt; seeks_agree(one, other, selector), "seek: {}", name);
+                assert!(rt; leaps_agree(one, other, selector), "leap: {}", name);
             }
         }
     }
-    assert_eq!(rt; one.top(), other.top());
-    Ok(())
+    assert_eq!(rt; one.top(), other.top(), "{}", name);
 }

@@ -252,12 +252,14 @@ fn calls_answer_as_the_table_says_and_change_no_more_than_that(
     let mut store = Withdrawn::new(row_store(rt.alloc(), &LIST)?);
     assert_eq!(rt; store.count(), 0);
     steps_hold(&rt, &mut store, &STEPS);
-    agree(&rt, &mut store, &mut row_store(rt.alloc(), &LEFT)?)?;
+    agree(&rt, "left", &mut store, &mut row_store(rt.alloc(), &LEFT)?);
     agree(
         &rt,
+        "the store below",
         &mut store.into_below(),
         &mut row_store(rt.alloc(), &LIST)?,
-    )
+    );
+    Ok(())
 }
 
 #[test]
@@ -265,7 +267,7 @@ fn seek_and_leap_pass_over_what_is_withdrawn(rt: HostRuntime) -> Result<(), Fail
     let mut store = Withdrawn::new(row_store(rt.alloc(), &LIST)?);
     for (triple, rest) in RESTS {
         assert_eq!(rt; outcome(store.withdraw(triple_of(triple))), (0, 0));
-        agree(&rt, &mut store, &mut row_store(rt.alloc(), rest)?)?;
+        agree(&rt, "the rest", &mut store, &mut row_store(rt.alloc(), rest)?);
     }
     assert_eq!(rt; store.count(), 6);
     Ok(())

@@ -23,6 +23,6 @@ pub(crate) fn level<S: Store>(
     for term in front {
         visit(store, *term, seen, &mut found)?;
     }
-    found.sort();
+    found.sort_unstable();
     Ok(found)
 }

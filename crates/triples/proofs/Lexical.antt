@@ -1,29 +1,21 @@
 -- What the derived orders of triples and pairs say of a list. Assumes nothing.
 --     Lexical, LexicalPair     the answers that comparing two triples, or two pairs, may have
-use Rattle.std.proofs.Common.{◌≡◌, ℕ, ◌<◌, true, false, ◌⊎◌, List, Ordering, Less, Greater, arith}
+use Rattle.std.proofs.Common.{◌≡◌, ℕ, ◌+◌, ◌-◌, true, false, List, Ordering, Less, get_or, arith}
 use Rattle.std.proofs.lemmas.Bool.Decides.{nat_tests}
-use Rattle.std.specs.Ordering.{MatchOrdering}
+use Rattle.std.specs.Ordering.{ordering_then, nat_cmp}
 use Rattle.triples.specs.declared.pair.Pair.{Pair}
 use Rattle.triples.specs.declared.triple.Triple.{Triple}
 use Rattle.triples.specs.Order.{before}
 use Rattle.triples.specs.Ascent.{Ascends, Falls}
 use Rattle.triples.specs.Tables.{Ordered, NotAbove, itself, triple_of}
 
--- numbers first, then the rest
-abbrev ThenBy : ℕ → ℕ → (Ordering → Type 0) → Ordering → Type 0
-ThenBy n k rest r =
-    ((n < k) × (r ≡ Less)) ⊎ (((k < n) × (r ≡ Greater)) ⊎ ((n ≡ k) × rest r))
-
 abbrev pub Lexical : Triple → Triple → Ordering → Type 0
 Lexical t u r =
-    ThenBy t.subject u.subject
-    (ThenBy t.property u.property
-    (λ k. MatchOrdering k (t.object < u.object) (t.object ≡ u.object) (u.object < t.object))) r
+    r ≡ ordering_then (nat_cmp t.subject u.subject)
+    (ordering_then (nat_cmp t.property u.property) (nat_cmp t.object u.object))
 
 abbrev pub LexicalPair : Pair → Pair → Ordering → Type 0
-LexicalPair x y r =
-    ThenBy x.subject y.subject
-    (λ k. MatchOrdering k (x.object < y.object) (x.object ≡ y.object) (y.object < x.object)) r
+LexicalPair x y r = r ≡ ordering_then (nat_cmp x.subject y.subject) (nat_cmp x.object y.object)
 
 lexical_less : (t u : Triple) → Lexical t u Less → before t u ≡ true
 lexical_less t u h = grind (arith, nat_tests)
@@ -32,13 +24,13 @@ lexical_not : (t u : Triple) (r : Ordering) → Lexical t u r → (r ≡ Less �
 lexical_not t u r h n = grind (arith, nat_tests)
 
 pub rows_ascend : (rows : List Triple) → Ascends Lexical rows → Ordered itself rows
-rows_ascend rows a k d h = lexical_less _ _ (a k d h)
+rows_ascend rows a k d h = lexical_less (get_or rows k d) (get_or rows (k + 1) d) (a k d h)
 
 pub rows_fall : (rows : List Triple) (i : ℕ) → Falls Lexical rows i → NotAbove itself rows i
 rows_fall rows i f = record {
   later = f.later;
   inside = f.inside;
-  unless = λ d. lexical_not _ _ f.found (f.compared d) f.unless;
+  unless = λ d. lexical_not (get_or rows (i - 1) d) (get_or rows i d) f.found (f.compared d) f.unless;
 }
 
 pair_less : (property : ℕ) (x y : Pair) → LexicalPair x y Less
@@ -51,12 +43,12 @@ pair_not property x y r h n = grind (arith, nat_tests)
 
 pub pairs_ascend : (property : ℕ) (pairs : List Pair) → Ascends LexicalPair pairs
     → Ordered (triple_of property) pairs
-pairs_ascend property pairs a k d h = pair_less property _ _ (a k d h)
+pairs_ascend property pairs a k d h = pair_less property (get_or pairs k d) (get_or pairs (k + 1) d) (a k d h)
 
 pub pairs_fall : (property : ℕ) (pairs : List Pair) (i : ℕ) → Falls LexicalPair pairs i
     → NotAbove (triple_of property) pairs i
 pairs_fall property pairs i f = record {
   later = f.later;
   inside = f.inside;
-  unless = λ d. pair_not property _ _ f.found (f.compared d) f.unless;
+  unless = λ d. pair_not property (get_or pairs (i - 1) d) (get_or pairs i d) f.found (f.compared d) f.unless;
 }

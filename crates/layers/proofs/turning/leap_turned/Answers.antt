@@ -52,14 +52,14 @@ returns-in-Subject g c =
 pub returns-in-Object : goal.returns-in-Object
 returns-in-Object g c =
     let at = (goal.at.returns-in-Object g c).In_ok-swapped in
-    let r = c.leap_in-Object.result in
+    let r = c.leap-in-Object.result in
     record {
       answer = at_position g at Object r c.in-Object.is
           (leapt_object (first g at) c.args.turn.property c.args.turn.inverse c.args.selector
           c.in_ok-swapped.swapped c.args.turn.known
           (sym c.in_ok-swapped.ensures.answer) c.args.bound r
-          (leapt g at Subject r c.leap_in-Object.ensures.answer));
-      same = c.leap_in-Object.ensures.same ∙ c.asked.ensures.same;
+          (leapt g at Subject r c.leap-in-Object.ensures.answer));
+      same = c.leap-in-Object.ensures.same ∙ c.asked.ensures.same;
     }
 
 -- what the seek answered, of the store as it was at first

@@ -1,5 +1,5 @@
 -- Each term of the level before is visited in turn, and what is found is put in order.
-use Rattle.std.proofs.Common.{vec_items, ◌∙◌, arith}
+use Rattle.std.proofs.Common.{vec_items, ◌∙◌}
 use Rattle.std.proofs.lemmas.List.Sorted.{IsNonDecreasingBy-from_sort}
 use Rattle.trace.proofs.Levels.{gathered_next, level_all, visited_like}
 use Rattle.trace.proofs.level.level.Goals as goal
@@ -14,12 +14,10 @@ loop-term-preserved g c = (
 
 pub returns : goal.returns
 returns g c =
-    let sorted = vec_items c.sort.new.self in
-    let long = c.sort.new.self.ok.0 in
+    let sorted = vec_items c.sort_unstable.new.self in
     record {
-      answer = level_all c.args.front.now c.loop-term-test.false c.sort.ensures.permutation
-          (IsNonDecreasingBy-from_sort (λ x. x) sorted _ (omega (arith, long, c.sort.ensures.len))
-          c.sort.ensures.sorted)
+      answer = level_all c.args.front.now c.loop-term-test.false c.sort_unstable.ensures.permutation
+          (IsNonDecreasingBy-from_sort (λ x. x) sorted c.sort_unstable.ensures.sorted)
           c.loop-term.invariant.1;
       same = c.loop-term.invariant.0;
     }

@@ -22,7 +22,7 @@ levels-init g c =
       omega (arith, long, made.len, c.top.ensures.answer, same),
       layers_none (g.S.Store.meaning c.top.new.self).has c.args.term (c.top.result + 1)
           c.new-reached.ensures.items c.in_ok-front.ensures.items
-          (made.items-if-clones-equal (λ y e. e)),
+          (made.items_if_clones_equal (λ y e. e)),
     )
 
 pub level-requires : goal.level-requires

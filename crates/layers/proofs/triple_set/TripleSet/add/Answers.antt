@@ -9,17 +9,12 @@ use Rattle.layers.proofs.triple_set.TripleSet.add.Goals as goal
 pub invariant_of-self : goal.invariant_of-self
 invariant_of-self c =
     let s = c.args.self.now in
-    let room = room_from_take s.entries s.count most_withdrawn s.full s.few c.requires.room in (
-      length-set s.entries s.count c.args.triple ∙ s.full,
-      (
-        omega (arith, room, s.full),
-        (
-          subst Once (sym (take_more_set s.entries s.count c.args.triple room))
-              (once_push (members s) c.args.triple s.once c.requires.fresh),
-          tt,
-        ),
-      ),
-    )
+    let room = room_from_take s.entries s.count most_withdrawn s.full s.few c.requires.room in record {
+      full = length-set s.entries s.count c.args.triple ∙ s.full;
+      few = omega (arith, room, s.full);
+      once = subst Once (sym (take_more_set s.entries s.count c.args.triple room))
+          (once_push (members s) c.args.triple s.once c.requires.fresh);
+    }
 
 pub returns : goal.returns
 returns c =

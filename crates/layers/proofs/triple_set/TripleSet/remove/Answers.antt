@@ -6,17 +6,12 @@ use Rattle.layers.proofs.triple_set.TripleSet.remove.Goals as goal
 
 pub invariant_of-self : goal.invariant_of-self
 invariant_of-self c =
-    let s = c.args.self.now in (
-      length-set s.entries c.in-Some.place _ ∙ s.full,
-      (
-        omega (arith, s.few),
-        (
-          once_moved s.entries s.count c.in-Some.place c.args.triple
-              (omega (arith, s.full, s.few)) s.once c.in-Some.ensures,
-          tt,
-        ),
-      ),
-    )
+    let s = c.args.self.now in record {
+      full = length-set s.entries c.in-Some.place _ ∙ s.full;
+      few = omega (arith, s.few);
+      once = once_moved s.entries s.count c.in-Some.place c.args.triple
+          (omega (arith, s.full, s.few)) s.once c.in-Some.ensures;
+    }
 
 pub returns : goal.returns
 returns c =

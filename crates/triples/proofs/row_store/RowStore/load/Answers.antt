@@ -10,4 +10,9 @@ invariant_of-result c =
     (rows_accepted c.args.top c.as_slice.result.now c.in-None.ensures) in
     let few = lawful.limited.few in
     let len = c.args.rows.ok.0 in
-    (lawful.limited.small, (omega (arith, few, len), (lawful.terms, (lawful.ordered, tt))))
+    record {
+      small = lawful.limited.small;
+      few = omega (arith, few, len);
+      terms = lawful.terms;
+      ordered = lawful.ordered;
+    }

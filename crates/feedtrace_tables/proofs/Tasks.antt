@@ -1,0 +1,26 @@
+-- Laws of tasks: a store that was asked and means what it meant. Assumes nothing.
+use Rattle.std.proofs.Common.{◌≡◌, Some, Option, sym, refl, ap, ◌∙◌, subst, MatchOption}
+use Rattle.std.specs.Option.{option_map}
+use Rattle.triples.specs.Meaning.{Meaning}
+use Rattle.feedtrace_tables.specs.declared.answer.Answer.{Answer}
+use Rattle.feedtrace_tables.specs.declared.answer.Answer.TheVariants as answer
+use Rattle.feedtrace_tables.specs.declared.expected.Expected.TheVariants as expected
+use Rattle.feedtrace_tables.specs.declared.layered.Layered.{Layered}
+use Rattle.feedtrace_tables.specs.declared.session.Session.{Session}
+use Rattle.feedtrace_tables.specs.Layerings.{layered_meaning}
+use Rattle.feedtrace_tables.specs.Tasks.{Asked}
+
+pub asked_some : (P : Meaning → Answer → Type 0) (s : Session) (l m : Layered) (r : Answer)
+    → s.store ≡ Some l
+    → layered_meaning m ≡ layered_meaning l → P (layered_meaning l) r
+    → Asked P s r (record { query = s.query; store = Some m; book = s.book; loading = s.loading })
+asked_some P s l m r is same p = (
+  record {
+    query = refl;
+    store = ap Some same ∙ sym (ap (option_map layered_meaning) is);
+    book = refl;
+    loading = refl;
+  },
+  subst (λ (o : Option Layered). MatchOption o (r ≡ answer.Error expected.Store) (λ l. P (layered_meaning l) r))
+      (sym is) p,
+)

@@ -1,0 +1,78 @@
+-- A table while its lines come in. Assumes nothing.
+--     drafted d text     the draft d with the element of the line text behind its list
+use Rattle.std.specs.Prelude.{◌≡◌, ℕ, ◌⊎◌, List, [], ◌∷◌, ◌++◌, Some, None, Ok, Err, vec_items, codes, Option, Result, MatchOption}
+use Rattle.triples.specs.declared.entry.DirectoryEntry.{DirectoryEntry}
+use Rattle.triples.specs.declared.pair.Pair.{Pair}
+use Rattle.triples.specs.declared.property_store.PropertyTable.{PropertyTable}
+use Rattle.triples.specs.declared.triple.Triple.{Triple}
+use Rattle.catalogue.specs.declared.record.Record.{Record}
+use Rattle.feedtrace_tables.specs.declared.expected.Expected.{Expected}
+use Rattle.feedtrace_tables.specs.declared.expected.Expected.TheVariants as expected
+use Rattle.feedtrace_tables.specs.declared.loading.Loading.{Loading}
+use Rattle.feedtrace_tables.specs.declared.loading.Lists.{Lists}
+use Rattle.feedtrace_tables.specs.declared.loading.Lists.TheVariants.{Rows, Properties, Records}
+use Rattle.feedtrace_tables.specs.Fields.{then, behind, only_triple}
+use Rattle.feedtrace_tables.specs.TableLines.{entry_line, pair_line, record_line}
+
+-- the lists of a table so far
+pub data Draft : Type 0 where
+  rows : ℕ → List Triple → Draft
+  properties : ℕ → List DirectoryEntry → List Pair → Draft
+  records : List Record → Draft
+
+-- the lists, as plain ones
+abbrev pub draft_of : Lists → Draft
+draft_of (Rows top v) = rows top (vec_items v)
+draft_of (Properties top t) = properties top (vec_items t.directory) (vec_items t.pairs)
+draft_of (Records v) = records (vec_items v)
+
+-- the element behind the list, if there is an element
+abbrev pub added : {A : Type 0} → List A → (List A → Draft) → Option A → Option Draft
+added xs make m = then m (λ x. Some (make (xs ++ x ∷ [])))
+
+-- the draft with a pair line's element, if the line is one
+abbrev pub pair_drafted : ℕ → List DirectoryEntry → List Pair → Option (List ℕ) → Option Draft
+pair_drafted top ds ps rest = then rest (λ text. added ps (properties top ds) (pair_line text))
+
+-- the draft with the element of a line behind property, if there is one, or else of a pair line
+abbrev pub entry_drafted : ℕ → List DirectoryEntry → List Pair → List ℕ → Option (List ℕ) → Option Draft
+entry_drafted top ds ps text None = pair_drafted top ds ps (behind (codes "pair") text)
+entry_drafted top ds ps text (Some rest) = added ds (λ es. properties top es ps) (entry_line rest)
+
+-- the draft with the element of the line behind its list; none where the line has another form
+abbrev pub drafted : Draft → List ℕ → Option Draft
+drafted (rows top xs) text = added xs (rows top) (only_triple text)
+drafted (properties top ds ps) text = entry_drafted top ds ps text (behind (codes "property") text)
+drafted (records rs) text = added rs records (record_line text)
+
+-- the line was taken; or it has another form, or memory is wanting, and the draft is as it was
+abbrev pub Drafted : {U : Type 0} → Draft → List ℕ → Result U Expected → Draft → Type 0
+Drafted d text (Ok _) e = drafted d text ≡ Some e
+Drafted d text (Err x) e =
+    (e ≡ d) × (((x ≡ expected.TableLines) × (drafted d text ≡ None))
+    ⊎ ((x ≡ expected.Memory) × ((f : Draft) × (drafted d text ≡ Some f))))
+
+-- the same of a property store's table
+abbrev pub EntryTaken : {U : Type 0} → List ℕ → PropertyTable → Result U Expected → PropertyTable → Type 0
+EntryTaken text a r b =
+    (top : ℕ) → Drafted (properties top (vec_items a.directory) (vec_items a.pairs)) text r
+    (properties top (vec_items b.directory) (vec_items b.pairs))
+
+-- what is to be loaded: the draft, and what was expected where a line was wrong
+pub record Pending : Type 0 where
+  pub draft : Draft
+  pub wrong : Option Expected
+
+-- what is to be loaded, of a table that is being read
+abbrev pub pending_of : Loading → Pending
+pending_of l = record { draft = draft_of l.lists; wrong = l.wrong }
+
+-- the line was taken into the draft; or it was not, and is remembered by what was expected
+abbrev pub LineTried : Draft → List ℕ → Pending → Type 0
+LineTried d text q = MatchOption q.wrong (drafted d text ≡ Some q.draft)
+    (λ x. Drafted {U = Unit {0}} d text (Err x) q.draft)
+
+-- a line was read: after a wrong line no more is taken; else the line is taken, or it is the wrong one
+abbrev pub LineRead : Pending → List ℕ → Pending → Type 0
+LineRead p text q =
+    MatchOption p.wrong (LineTried p.draft text q) (λ _. q ≡ p)

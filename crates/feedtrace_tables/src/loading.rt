@@ -1,0 +1,22 @@
+//! A table while its lines come in.
+use crate::expected::Expected;
+use catalogue::record::Record;
+use triples::property_store::PropertyTable;
+use triples::triple::Triple;
+
+/// The lists of a table, so far.
+#[derive(Drop)]
+pub(crate) enum Lists {
+    Rows(u32, Vec<Triple>),
+    Properties(u32, PropertyTable),
+    Records(Vec<Record>),
+}
+
+/// A table that is being read: its lists so far, what was expected where a line was wrong, and how many lines
+/// there were.
+#[derive(Drop)]
+pub(crate) struct Loading {
+    pub(crate) lists: Lists,
+    pub(crate) wrong: Option<Expected>,
+    pub(crate) lines: u64,
+}

@@ -1,0 +1,55 @@
+//! The console of the trace engine: a command a line, and an answer to each.
+#![tactic(auto)]
+
+mod answer;
+mod ask;
+mod book;
+mod carry;
+mod change;
+mod command;
+mod expected;
+mod field;
+mod filter;
+mod form;
+mod grammar;
+mod lay;
+mod layered;
+mod line;
+mod listing;
+mod load;
+mod loading;
+mod number;
+mod outcome;
+mod read_line;
+mod reply;
+mod session;
+mod step;
+mod table;
+mod table_line;
+mod table_step;
+mod task;
+mod told;
+mod triple;
+mod verb;
+
+use session::Session;
+use std::io::{BufRead, BufReader};
+
+/// Answers every line of standard input.
+fn run(rt: &HostRuntime) -> anyhow::Result<()> {
+    let heap = rt.alloc();
+    let mut session = Session::new();
+    for line in BufReader::new(heap, rt.stdin())?.split(heap, b'\n') {
+        let line = line?;
+        let answer = session.answer(heap, line.as_slice());
+        rt.print(session.reply(&answer))?;
+        if let Some(lines) = session.progress() {
+            eprintln!(rt; "{lines} lines of the table read")?;
+        }
+    }
+    Ok(())
+}
+
+fn main(rt: HostRuntime) -> anyhow::Result<()> {
+    run(&rt)
+}

@@ -1,0 +1,34 @@
+//! What a task comes to.
+use catalogue::kind::Kind;
+use triples::triple::Triple;
+
+/// What a task comes to, where it is carried out.
+#[derive(Drop)]
+pub enum Outcome {
+    /// A table's lines begin.
+    Begun,
+    /// A row store is current: its top, and how many triples it has.
+    Rows(u32, usize),
+    /// A property store is current: its top, how many properties it has, and how many pairs.
+    Properties(u32, usize, usize),
+    /// The inline catalogue is current.
+    Inline,
+    /// A listed catalogue of so many records is current.
+    Listed(usize),
+    /// An inverse layer of the two properties is on top.
+    Inverse(u32, u32),
+    /// A withdrawn layer is on top, with nothing withdrawn.
+    Layered,
+    /// So many triples are withdrawn.
+    Withdrawn(usize),
+    /// The triple that was sought, if there is one.
+    Found(Option<Triple>),
+    /// The number that was asked for, if there is one.
+    Number(Option<u32>),
+    /// Kind and value of a number.
+    Entry(Kind, i32),
+    /// The triples that match.
+    Triples(Vec<Triple>),
+    /// The terms reached.
+    Terms(Vec<u32>),
+}

@@ -1,0 +1,21 @@
+//! Reading the lines of a table, one after the other.
+ghost use Rattle.feedtrace_tables.specs.Drafts.{pending_of, LineRead};
+
+use crate::loading::Loading;
+
+impl Loading {
+    /// Reads a line of the table. After a wrong line no more is taken.
+    pub(crate) fn read(&mut self, text: &[u8])
+        ensures { LineRead (pending_of self.old) text.now
+            (pending_of self.new) }
+    {
+        self.lines = self.lines.saturating_add(1);
+        match self.wrong {
+            Some(_) => {}
+            None => match self.lists.take(text) {
+                Ok(()) => {}
+                Err(expected) => self.wrong = Some(expected),
+            },
+        }
+    }
+}

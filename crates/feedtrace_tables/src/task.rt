@@ -1,0 +1,35 @@
+//! What the console does with tables, layers, and what they hold.
+use triples::position::Position;
+use triples::selector::Selector;
+use triples::triple::Triple;
+
+/// A task about stores and catalogues.
+#[derive(Clone, Copy)]
+pub enum Task {
+    /// Begins a row store of that top.
+    RowStore(u32),
+    /// Begins a property store of that top.
+    PropertyStore(u32),
+    /// The inline catalogue becomes the current one.
+    InlineCatalogue,
+    /// Begins a listed catalogue.
+    ListedCatalogue,
+    /// Puts an inverse layer of the two properties over the current store.
+    Inverse(u32, u32),
+    /// Puts a withdrawn layer over the current store.
+    Withdrawn,
+    /// Withdraws the triple.
+    Withdraw(Triple),
+    /// Restores the triple.
+    Restore(Triple),
+    /// Asks for the least triple that matches and is not below the start.
+    Seek(Selector, Triple),
+    /// Asks for the least number from the bound on at the position of a triple that matches.
+    Leap(Position, Selector, u32),
+    /// Asks for kind and value of a number.
+    Lookup(u32),
+    /// Lists the triples that match.
+    Scan(Selector),
+    /// Lists the terms that the term reaches.
+    Trace(u32),
+}
