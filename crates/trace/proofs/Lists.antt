@@ -3,10 +3,10 @@ use Rattle.std.proofs.Common.{◌≡◌, ℕ, ◌+◌, ◌<◌, ◌≤◌, cond,
 use Rattle.std.proofs.ByRecursion.{All-weaker, sum_by_le}
 use Rattle.std.proofs.lemmas.List.Sums.{sum_by_more, sum_by-take-le}
 use Rattle.std.proofs.lemmas.Bool.{cases_lt, eq-eqb, ne_eqb, cond-true, cond-false}
-use Rattle.std.specs.List.{AllByRecursion as All}
+use Rattle.std.specs.List.{AllByRecursion}
 use Rattle.std.specs.List.Sorted.{IsNonDecreasing}
 
-pub count_none : (y : ℕ) (xs : List ℕ) → All (λ x. y ≡ x → ⊥) xs → count_by (eqb y) xs ≡ 0
+pub count_none : (y : ℕ) (xs : List ℕ) → AllByRecursion (λ x. y ≡ x → ⊥) xs → count_by (eqb y) xs ≡ 0
 count_none y xs h =
     let none = sum_by_le (λ x. cond (eqb y x) 1 0) 0 xs
     (All-weaker (λ x. y ≡ x → ⊥) (λ x. cond (eqb y x) 1 0 ≤ 0)

@@ -5,7 +5,7 @@ use Rattle.std.proofs.lemmas.List.{length_push, length-replicate, get_or_past, g
 use Rattle.std.proofs.lemmas.List.Sorted.{length_permutation, sum_by-IsPermutation}
 use Rattle.std.proofs.lemmas.List.Sums.{sum_by_push, sum_by-set}
 use Rattle.std.proofs.lemmas.Bool.{cases_Bool, cases_eq, cases_lt, eqb-true, both_ways, cond-true, cond-false}
-use Rattle.std.specs.List.{ContainsAt as Has, AllByRecursion as All}
+use Rattle.std.specs.List.{ContainsAt as Has, AllByRecursion}
 use Rattle.std.specs.List.Sorted.{IsPermutation}
 use Rattle.trace.specs.Marks.{marked, unmarked, Noted, Gathered}
 use Rattle.trace.proofs.Lists.{count_none}
@@ -70,7 +70,7 @@ module _ {P : ℕ → Type 0} {old new : List Bool} {xs : List ℕ} (g : Gathere
   }
 
   module _ (y : ℕ) (l : y < length new) (here : marked new y ≡ false) where
-    apart : All (λ x. y ≡ x → ⊥) xs
+    apart : AllByRecursion (λ x. y ≡ x → ⊥) xs
     apart =
         All-weaker _ _
         (λ x h e. both_ways (marked new x) (subst (λ k. marked new k ≡ false) e here) h.after)

@@ -3,7 +3,7 @@ use Rattle.std.proofs.Common.{◌≡◌, ◌+◌, ◌<◌, Bool, true, false, Li
 use Rattle.std.proofs.ByRecursion.{All-get_or, All-push, All-weaker}
 use Rattle.std.proofs.lemmas.List.{length_push, get_or_append_left, get_or_push}
 use Rattle.std.proofs.lemmas.Bool.{false≢true, true≢false, cases_Bool, cases_lt, or_cases, or_left, or_right}
-use Rattle.std.specs.List.{AllByRecursion as All}
+use Rattle.std.specs.List.{AllByRecursion}
 use Rattle.triples.specs.declared.selector.Selector.{Selector}
 use Rattle.triples.specs.declared.triple.Triple.{Triple}
 use Rattle.triples.specs.Meaning.{among}
@@ -31,7 +31,7 @@ among_push (y ∷ xs) x t h = or_right (same y t) (among (xs ++ x ∷ []) t) (am
 
 -- ascending lists
 
-ascending_push : (xs : List Triple) (t : Triple) → Ascending xs → All (λ x. before x t ≡ true) xs
+ascending_push : (xs : List Triple) (t : Triple) → Ascending xs → AllByRecursion (λ x. before x t ≡ true) xs
     → Ascending (xs ++ t ∷ [])
 ascending_push xs t up below k d h =
     let long = length_push xs t in
@@ -50,8 +50,8 @@ module _ (has : Triple → Bool) (selector : Selector) where
   -- xs is what the scan gives of the triples before start
   pub record ScannedTo (start : Triple) (xs : List Triple) : Type 0 where
     pub ascending : Ascending xs
-    pub each : All (Match has selector) xs
-    pub below : All (λ t. before t start ≡ true) xs
+    pub each : AllByRecursion (Match has selector) xs
+    pub below : AllByRecursion (λ t. before t start ≡ true) xs
     pub all : (t : Triple) → Match has selector t → before t start ≡ true → among xs t ≡ true
 
   pub scanned_none : {xs : List Triple} → xs ≡ [] → ScannedTo origin xs

@@ -4,7 +4,7 @@ use Rattle.std.proofs.Common.{◌≡◌, ℕ, zero, suc, ◌-◌, ◌<◌, ◌�
 use Rattle.std.proofs.ByRecursion.{All-append, All-get_or, all-has, all_has_itself, All-weaker, has_append_left, has_append_right, has_get_or, has_push, has_push_cases}
 use Rattle.std.proofs.lemmas.List.{length-append, get_or_append_left, get_or-append_right}
 use Rattle.std.proofs.lemmas.Bool.{both_ways, cases_lt}
-use Rattle.std.specs.List.{ContainsAt as Has, AllByRecursion as All}
+use Rattle.std.specs.List.{ContainsAt as Has, AllByRecursion}
 use Rattle.triples.specs.declared.triple.Triple.{Triple}
 use Rattle.trace.specs.Levels.{From, Level}
 use Rattle.trace.specs.Marks.{marked}
@@ -27,10 +27,10 @@ module _ (has : Triple → Bool) (a : ℕ) where
   -- reached is what at most k steps lead to, in order, and is what the marks mark; front is what k steps lead
   -- to, and no fewer
   pub record Layered (k : ℕ) (reached front : List ℕ) (marks : List Bool) : Type 0 where
-    pub each : All (Close k) reached
+    pub each : AllByRecursion (Close k) reached
     pub all : (j b : ℕ) → 1 ≤ j → j ≤ k → Reaches has j a b → Has reached b
     pub order : (i j d : ℕ) → i < j → j < length reached → Nearer has a (get_or reached i d) (get_or reached j d)
-    pub seen : All (λ x. marked marks x ≡ true) reached
+    pub seen : AllByRecursion (λ x. marked marks x ≡ true) reached
     pub listed : (x : ℕ) → marked marks x ≡ true → Has reached x
     pub last : (x : ℕ) → Has front x → Fresh k x
     pub whole : (x : ℕ) → Fresh k x → Has front x

@@ -1,6 +1,6 @@
 -- Numbers that are gathered into a list, each once, with a mark at each number met. Assumes nothing.
 use Rattle.std.specs.Prelude.{◌≡◌, ℕ, ◌+◌, ◌≤◌, Bool, true, false, cond, not, ◌⊎◌, List, [], ◌∷◌, ◌++◌, length, count_by, nat_eq, slice_index_or, slice_set}
-use Rattle.std.specs.List.{ContainsAt as Has, AllByRecursion as All}
+use Rattle.std.specs.List.{ContainsAt as Has, AllByRecursion}
 
 -- whether y is marked; a number past the end of the marks is not
 abbrev pub marked : List Bool → ℕ → Bool
@@ -24,7 +24,7 @@ pub record Gain (P : ℕ → Type 0) (old new : List Bool) (y : ℕ) : Type 0 wh
 
 -- xs has, each once, the numbers with P that old does not mark; new marks these and what old marks
 pub record Gathered (P : ℕ → Type 0) (old new : List Bool) (xs : List ℕ) : Type 0 where
-  pub each : All (Gain P old new) xs
+  pub each : AllByRecursion (Gain P old new) xs
   pub once : (y : ℕ) → count_by (nat_eq y) xs ≤ 1
   pub all : (y : ℕ) → P y → marked new y ≡ true
   pub kept : (y : ℕ) → marked old y ≡ true → marked new y ≡ true

@@ -1,6 +1,6 @@
 -- The triples of a set that match a selector, as a list. Assumes nothing.
 use Rattle.std.specs.Prelude.{◌≡◌, Bool, true, List, length}
-use Rattle.std.specs.List.{AllByRecursion as All, AllAdjacentBelow}
+use Rattle.std.specs.List.{AllByRecursion, AllAdjacentBelow}
 use Rattle.triples.specs.declared.selector.Selector.{Selector}
 use Rattle.triples.specs.declared.triple.Triple.{Triple}
 use Rattle.triples.specs.Meaning.{among}
@@ -19,5 +19,5 @@ Ascending xs = AllAdjacentBelow (λ t u. before t u ≡ true) xs (length xs)
 -- xs is ascending, each of its triples is a match, and every match is among them
 pub record Scanned (has : Triple → Bool) (selector : Selector) (xs : List Triple) : Type 0 where
   pub ascending : Ascending xs
-  pub each : All (Match has selector) xs
+  pub each : AllByRecursion (Match has selector) xs
   pub all : (t : Triple) → Match has selector t → among xs t ≡ true

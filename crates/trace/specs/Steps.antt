@@ -3,7 +3,7 @@
 --     Reached has a b     one step or more lead from a to b; from a to a only by a cycle
 --     Nearest has k a b   k is the least number of steps, 1 or more, that lead from a to b
 use Rattle.std.specs.Prelude.{◌≡◌, ℕ, zero, suc, ◌<◌, ◌≤◌, Bool, true, ◌⊎◌, List, length, slice_index_or}
-use Rattle.std.specs.List.{ContainsAt as Has, AllByRecursion as All}
+use Rattle.std.specs.List.{ContainsAt as Has, AllByRecursion}
 use Rattle.triples.specs.declared.triple.Triple.{Triple}
 
 -- some triple of the set has a as its subject and b as its object
@@ -38,6 +38,6 @@ pub record Nearer (has : Triple → Bool) (a x y : ℕ) : Type 0 where
 
 -- the elements of xs are what a reaches, each nearer than every one behind it, so each once
 pub record Traced (has : Triple → Bool) (a : ℕ) (xs : List ℕ) : Type 0 where
-  pub each : All (Reached has a) xs
+  pub each : AllByRecursion (Reached has a) xs
   pub all : (b : ℕ) → Reached has a b → Has xs b
   pub order : (i j d : ℕ) → i < j → j < length xs → Nearer has a (slice_index_or xs i d) (slice_index_or xs j d)
