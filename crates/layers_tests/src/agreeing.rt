@@ -43,12 +43,7 @@ fn leaps_agree<A: Store, B: Store>(one: &mut A, other: &mut B, selector: Selecto
 }
 
 /// Both answer the same for every selector, and have the same top.
-pub(crate) fn agree<A: Store, B: Store>(
-    rt: &impl Abort,
-    name: &str,
-    one: &mut A,
-    other: &mut B,
-) {
+pub(crate) fn agree<A: Store, B: Store>(rt: &impl Abort, name: &str, one: &mut A, other: &mut B) {
     for subject in NUMBERS {
         for property in NUMBERS {
             for object in NUMBERS {

@@ -71,11 +71,21 @@ fn withdrawing_over_an_inverse_leaves_the_turned_triple(rt: HostRuntime) -> Resu
     let mut store = Withdrawn::new(inverse);
     for (triple, refusal, list) in WITHDRAWN_OVER_INVERSE {
         assert_eq!(rt; outcome(store.withdraw(triple_of(triple))), (refusal, 0));
-        agree(&rt, "over an inverse", &mut store, &mut row_store(rt.alloc(), list)?);
+        agree(
+            &rt,
+            "over an inverse",
+            &mut store,
+            &mut row_store(rt.alloc(), list)?,
+        );
     }
     let mut table = store.into_below().into_below();
     assert_eq!(rt; (table.entries(), table.len()), (5, 6));
-    agree(&rt, "the store below", &mut table, &mut row_store(rt.alloc(), &LIST)?);
+    agree(
+        &rt,
+        "the store below",
+        &mut table,
+        &mut row_store(rt.alloc(), &LIST)?,
+    );
     Ok(())
 }
 

@@ -267,7 +267,12 @@ fn seek_and_leap_pass_over_what_is_withdrawn(rt: HostRuntime) -> Result<(), Fail
     let mut store = Withdrawn::new(row_store(rt.alloc(), &LIST)?);
     for (triple, rest) in RESTS {
         assert_eq!(rt; outcome(store.withdraw(triple_of(triple))), (0, 0));
-        agree(&rt, "the rest", &mut store, &mut row_store(rt.alloc(), rest)?);
+        agree(
+            &rt,
+            "the rest",
+            &mut store,
+            &mut row_store(rt.alloc(), rest)?,
+        );
     }
     assert_eq!(rt; store.count(), 6);
     Ok(())

@@ -6,7 +6,7 @@ use Rattle.std.proofs.lemmas.Bool.{or_cases, or_left, or_right, false≢true, ca
 use Rattle.triples.specs.declared.entry.DirectoryEntry.{DirectoryEntry}
 use Rattle.triples.specs.declared.pair.Pair.{Pair}
 use Rattle.triples.specs.declared.triple.Triple.{Triple}
-use Rattle.triples.specs.Meaning.{Meaning, among, listed}
+use Rattle.triples.specs.Meaning.{Meaning, among}
 use Rattle.triples.specs.Tables.{itself, triple_of}
 use Rattle.triples.specs.Directory.{property_of, first_of, end_of, section, section_triples, triples_upto}
 use Rattle.triples.specs.Directory.{table_triples}

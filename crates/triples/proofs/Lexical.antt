@@ -1,5 +1,5 @@
 -- What the derived orders of triples and pairs say of a list. Assumes nothing.
---     Lexical, LexicalPair     the answers that comparing two triples, or two pairs, may have
+--     Lexical, LexicalPair     the answer that comparing two triples, or two pairs, has
 use Rattle.std.proofs.Common.{◌≡◌, ℕ, ◌+◌, ◌-◌, true, false, List, Ordering, Less, get_or, arith}
 use Rattle.std.proofs.lemmas.Bool.Decides.{nat_tests}
 use Rattle.std.specs.Ordering.{ordering_then, nat_cmp}

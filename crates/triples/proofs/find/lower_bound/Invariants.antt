@@ -1,6 +1,5 @@
 -- The elements before low stand for triples before the start, those from high on do not.
 use Rattle.std.proofs.Common.{◌-◌}
-use Rattle.triples.specs.Order.{before}
 use Rattle.triples.proofs.Finding.{Around}
 use Rattle.triples.proofs.find.lower_bound.Given as goal
 
