@@ -12,7 +12,8 @@ use Rattle.catalogue.specs.Records.{first_invalid, most_records, no_record, spel
 -- and 0 and the numbers past the last record are unlisted
 abbrev pub listed_entry : List Record → ℕ → Entry
 listed_entry records n =
-    cond (nat_le 1 n && nat_le n (length records)) (spelled (slice_index_or records (n - 1) no_record)) unlisted
+    cond (nat_le 1 n && nat_le n (length records))
+    (spelled (slice_index_or records (n - 1) no_record)) unlisted
 
 -- a refusal at a place
 abbrev at_place : Refusal → ℕ → Rejection

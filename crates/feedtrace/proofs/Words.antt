@@ -46,7 +46,8 @@ unindented_white : (c : ℕ) (cs : List ℕ) → is_ascii_whitespace c ≡ true 
 unindented_white c cs t = cond-true (is_ascii_whitespace c) (unindented cs) (c ∷ cs) t
 
 pub unindented_at : (n : ℕ) (text : List ℕ) → ((i : ℕ) → i < n → is_ascii_whitespace (get_or text i 0) ≡ true)
-    → (n < length text → is_ascii_whitespace (get_or text n 0) ≡ false) → n ≤ length text → unindented text ≡ drop n text
+    → (n < length text → is_ascii_whitespace (get_or text n 0) ≡ false) → n ≤ length text
+    → unindented text ≡ drop n text
 unindented_at zero [] white dark h = refl
 unindented_at (suc n) [] white dark h = absurd (omega arith)
 unindented_at zero (c ∷ cs) white dark h =

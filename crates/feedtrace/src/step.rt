@@ -41,8 +41,7 @@ impl Session {
     /// current query.
     pub(crate) fn reply<'a>(&'a self, answer: &'a Answer) -> Reply<'a>
         ensures answer { result.answer.now ≡ answer.now }
-        ensures alternatives { map group_of result.alternatives.now
-            ≡ unwrap_or (current self.now) [] }
+        ensures alternatives { map group_of result.alternatives.now ≡ unwrap_or (current self.now) [] }
     {
         match &self.query {
             Some(query) => Reply {

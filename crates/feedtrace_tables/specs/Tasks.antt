@@ -34,7 +34,8 @@ pub record Kept (s t : Session) : Type 0 where
 
 -- the store of s was asked, and P holds of its meaning and the answer; or there is no store
 abbrev pub Asked : (Meaning → Answer → Type 0) → Session → Answer → Session → Type 0
-Asked P s r t = Kept s t × MatchOption s.store (r ≡ answer.Error expected.Store) (λ l. P (layered_meaning l) r)
+Asked P s r t =
+    Kept s t × MatchOption s.store (r ≡ answer.Error expected.Store) (λ l. P (layered_meaning l) r)
 
 -- the least triple that matches and is not below the start
 abbrev pub SeekAnswer : Selector → triples.Triple → Meaning → Answer → Type 0

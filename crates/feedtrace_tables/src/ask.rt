@@ -27,8 +27,7 @@ impl Session {
 
     /// The smallest number from the bound on at the position of a matching triple of the current store.
     pub(crate) fn leap(&mut self, position: Position, selector: Selector, bound: u32) -> Answer
-        ensures { Asked (LeapAnswer position selector bound) self.old result
-            self.new }
+        ensures { Asked (LeapAnswer position selector bound) self.old result self.new }
     {
         match &mut self.store {
             None => Answer::Error(Expected::Store),

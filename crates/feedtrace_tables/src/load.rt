@@ -60,8 +60,7 @@ impl Session {
 
     /// The records become the current catalogue.
     fn load_records(&mut self, records: Vec<Record>) -> Answer
-        ensures { Loaded (drafts.records records.items) self.old result
-            self.new }
+        ensures { Loaded (drafts.records records.items) self.old result self.new }
     {
         let count = records.len();
         match Listed::load(records) {

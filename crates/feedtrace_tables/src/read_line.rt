@@ -6,8 +6,7 @@ use crate::loading::Loading;
 impl Loading {
     /// Reads a line of the table. After a wrong line no more is taken.
     pub(crate) fn read(&mut self, text: &[u8])
-        ensures { LineRead (pending_of self.old) text.now
-            (pending_of self.new) }
+        ensures { LineRead (pending_of self.old) text.now (pending_of self.new) }
     {
         self.lines = self.lines.saturating_add(1);
         match self.wrong {

@@ -82,6 +82,7 @@ read_text_of (b ∷ bs) h = read_pair b bs (h 0) ∙ ap (led_by (Some b)) (read_
 
 -- a text and then another is cs
 pub put_then : {W : Type 0} (took : W → List ℕ → W → Type 0) {f g h : Formatter W} {xs ys cs : List ℕ}
-    → xs ++ ys ≡ cs → HasWritten took f xs g → (IsPlainFormatter g → HasWritten took g ys h) → HasWritten took f cs h
+    → xs ++ ys ≡ cs → HasWritten took f xs g → (IsPlainFormatter g → HasWritten took g ys h)
+    → HasWritten took f cs h
 put_then took {f} {g} {h} {xs} {ys} {cs} e first second =
     has_written_of_eq took f (xs ++ ys) cs h e (has_written_append took f xs g ys h first (second first.plain))

@@ -5,4 +5,5 @@ use Rattle.hex_text.specs.Writing.{text_of}
 
 -- reading the text of bytes gives the bytes
 abbrev pub WrittenIsRead : Type 0
-WrittenIsRead = (bytes : List ℕ) → ((i : ℕ) → slice_index bytes i < 256) → read_text (text_of bytes) ≡ Some bytes
+WrittenIsRead = (bytes : List ℕ) → ((i : ℕ) → slice_index bytes i < 256)
+    → read_text (text_of bytes) ≡ Some bytes

@@ -64,8 +64,7 @@ impl<S: Store> Withdrawn<S> {
     pub fn withdraw(&mut self, triple: Triple) -> Result<(), Rejection>
         ensures answer { Withdraws (S.Store.meaning self.old.below)
             (members self.old.gone) triple result (members self.new.gone) }
-        ensures same { S.Store.meaning self.new.below
-            ≡ S.Store.meaning self.old.below }
+        ensures same { S.Store.meaning self.new.below ≡ S.Store.meaning self.old.below }
     {
         if self.gone.has(triple) {
             return Err(Rejection::unplaced(Refusal::AlreadyWithdrawn));

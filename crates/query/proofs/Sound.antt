@@ -70,8 +70,10 @@ filter_writable ns h =
 pub mapped_writable : {A B : Type 0} (f : A → B) (ok : B → Bool) (low high : ℕ) (xs : List A) → high
     ≤ most_in_part
     → within low high (length (map f xs)) ≡ true → every ok (map f xs) ≡ true → Writable (λ x. ok (f x)) xs
-mapped_writable f ok low high xs s h e =
-    (omega (arith, few low high (length (map f xs)) s h, length-map xs f), all_every (λ x. ok (f x)) xs (sym (every_map f ok xs) ∙ e))
+mapped_writable f ok low high xs s h e = (
+  omega (arith, few low high (length (map f xs)) s h, length-map xs f),
+  all_every (λ x. ok (f x)) xs (sym (every_map f ok xs) ∙ e),
+)
 
 joined-map : {A B : Type 0} (f : A → B) (code : B → List ℕ) (xs : List A) → flat_map (λ x. code (f x)) xs
     ≡ flat_map code (map f xs)

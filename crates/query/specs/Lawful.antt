@@ -101,7 +101,8 @@ lawful_group g =
 abbrev pub limited : List Group → Bool
 limited q =
     within 1 most_alternatives (length q)
-    && (every lawful_group q && (nat_le (total triples_in q) most_in_all && nat_le (total nodes_in q) most_in_all))
+    && (every lawful_group q
+    && (nat_le (total triples_in q) most_in_all && nat_le (total nodes_in q) most_in_all))
 
 -- a query keeps its limits, and no alternative's blocks share a variable that its required triples lack
 abbrev pub lawful : List Group → Bool

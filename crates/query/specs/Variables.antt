@@ -25,4 +25,5 @@ pub record Clash (required : VariableSet) (sets : List VariableSet) : Type 0 whe
   pub ordered : first < second
   pub inside : second < length sets
   pub known : variable < variables
-  pub clashes : (d : VariableSet) → clash variable required (slice_index_or sets first d) (slice_index_or sets second d) ≡ true
+  pub clashes : (d : VariableSet)
+      → clash variable required (slice_index_or sets first d) (slice_index_or sets second d) ≡ true

@@ -54,8 +54,7 @@ impl Builder {
     /// A triple of the part in work.
     pub(crate) fn triple(&mut self, triple: TriplePattern)
         requires { self.old.triples < most_in_all }
-        ensures tracks { (d : Draft) → Tracks self.old d
-            → Tracks self.new (stepped d (Triple triple)) }
+        ensures tracks { (d : Draft) → Tracks self.old d → Tracks self.new (stepped d (Triple triple)) }
         ensures used { used_of self.new ≡ with_triples (used_of self.old) 1 }
     {
         self.triples += 1;
@@ -66,8 +65,7 @@ impl Builder {
     /// A node of the filter in work.
     pub(crate) fn node(&mut self, node: Node)
         requires { self.old.nodes < most_in_all }
-        ensures tracks { (d : Draft) → Tracks self.old d
-            → Tracks self.new (stepped d (NodeStep node)) }
+        ensures tracks { (d : Draft) → Tracks self.old d → Tracks self.new (stepped d (NodeStep node)) }
         ensures used { used_of self.new ≡ with_nodes (used_of self.old) 1 }
     {
         self.nodes += 1;
@@ -76,8 +74,7 @@ impl Builder {
 
     /// The triples in work are the required ones.
     pub(crate) fn end_required(&mut self)
-        ensures tracks { (d : Draft) → Tracks self.old d
-            → Tracks self.new (stepped d EndRequired) }
+        ensures tracks { (d : Draft) → Tracks self.old d → Tracks self.new (stepped d EndRequired) }
         ensures used { used_of self.new ≡ used_of self.old }
     {
         self.required = self.part;
@@ -100,8 +97,7 @@ impl Builder {
 
     /// The required triples, the blocks and the filter in work are an alternative.
     pub(crate) fn end_alternative(&mut self)
-        ensures tracks { (d : Draft) → Tracks self.old d
-            → Tracks self.new (stepped d EndAlternative) }
+        ensures tracks { (d : Draft) → Tracks self.old d → Tracks self.new (stepped d EndAlternative) }
         ensures used { used_of self.new ≡ used_of self.old }
     {
         let blocks = self.blocks;

@@ -29,8 +29,7 @@ impl VariableSet {
 
     /// Makes the place a member, if it is a variable.
     fn add(&mut self, place: Place)
-        ensures { (v : ℕ) → v < variables → member v self.new
-            ≡ (member v self.old || is_variable v place) }
+        ensures { (v : ℕ) → v < variables → member v self.new ≡ (member v self.old || is_variable v place) }
     {
         if let Place::Variable(v) = place {
             let v = v as usize;
@@ -42,8 +41,7 @@ impl VariableSet {
 
     /// Makes the variables of the triple members.
     pub(crate) fn add_triple(&mut self, triple: &TriplePattern)
-        ensures { (ts : List Pattern) → Gathers self.old ts
-            → Gathers self.new (ts ++ triple.now ∷ []) }
+        ensures { (ts : List Pattern) → Gathers self.old ts → Gathers self.new (ts ++ triple.now ∷ []) }
     {
         self.add(triple.subject);
         self.add(triple.property);

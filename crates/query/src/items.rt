@@ -27,8 +27,7 @@ impl<'a> Cursor<'a> {
 
     /// What follows the kind of node number `number`.
     fn operands(&mut self, number: u32, kind: Kind) -> Result<Node, Rejection>
-        ensures answer { Reads (ahead (grammar.operands number kind) self.old) result
-            self.new }
+        ensures answer { Reads (ahead (grammar.operands number kind) self.old) result self.new }
         ensures same { self.new.bytes ≡ self.old.bytes }
     {
         match kind {

@@ -33,16 +33,14 @@ impl Kept {
 
     /// A triple of the part in work.
     fn triple(&mut self, triple: TriplePattern) -> bool
-        ensures { result ≡ true → draft_of self.new
-            ≡ with_triple (draft_of self.old) triple }
+        ensures { result ≡ true → draft_of self.new ≡ with_triple (draft_of self.old) triple }
     {
         self.triples.push(triple).is_ok()
     }
 
     /// A node of the filter in work.
     fn node(&mut self, node: Node) -> bool
-        ensures { result ≡ true → draft_of self.new
-            ≡ with_node (draft_of self.old) node }
+        ensures { result ≡ true → draft_of self.new ≡ with_node (draft_of self.old) node }
     {
         self.nodes.push(node).is_ok()
     }
@@ -56,8 +54,7 @@ impl Kept {
 
     /// The triples and the filter in work are a block.
     fn end_block(&mut self) -> bool
-        ensures { result ≡ true → draft_of self.new
-            ≡ block_ended (draft_of self.old) }
+        ensures { result ≡ true → draft_of self.new ≡ block_ended (draft_of self.old) }
     {
         let triples = mem::replace(&mut self.triples, Vec::new(self.heap));
         let filter = mem::replace(&mut self.nodes, Vec::new(self.heap));
@@ -66,8 +63,7 @@ impl Kept {
 
     /// The required triples, the blocks and the filter in work are an alternative.
     fn end_alternative(&mut self) -> bool
-        ensures { result ≡ true → draft_of self.new
-            ≡ alternative_ended (draft_of self.old) }
+        ensures { result ≡ true → draft_of self.new ≡ alternative_ended (draft_of self.old) }
     {
         let required = mem::replace(&mut self.required, Vec::new(self.heap));
         let blocks = mem::replace(&mut self.blocks, Vec::new(self.heap));
@@ -103,8 +99,7 @@ impl Kept {
 
     /// Takes one step; false where there is no memory for it.
     fn take(&mut self, step: Step) -> bool
-        ensures { result ≡ true → draft_of self.new
-            ≡ stepped (draft_of self.old) step }
+        ensures { result ≡ true → draft_of self.new ≡ stepped (draft_of self.old) step }
     {
         match step {
             Step::Triple(triple) => self.triple(triple),

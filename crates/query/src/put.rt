@@ -66,8 +66,7 @@ pub(crate) fn put_list<T: Coded>(items: &[T], out: &mut [u8], at: usize) -> usiz
     requires few { length items.now ≤ largest }
     requires sound { All T.Coded.sound items.now }
     requires room { at + length (counted T.Coded.code items.now) ≤ length out.old }
-    ensures { Put (counted T.Coded.code items.now) at out.old result
-        out.new }
+    ensures { Put (counted T.Coded.code items.now) at out.old result out.new }
 {
     let mut place = put_number(items.len() as u32, out, at);
     // Kept: writing the items left behind this place completes the list.

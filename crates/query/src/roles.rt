@@ -36,8 +36,7 @@ impl<'a> Cursor<'a> {
 
     /// A count from `least` to `most`.
     pub(crate) fn count(&mut self, least: u32, most: u32) -> Result<u32, Rejection>
-        ensures answer { Reads (ahead (readers.count least most) self.old) result
-            self.new }
+        ensures answer { Reads (ahead (readers.count least most) self.old) result self.new }
         ensures same { self.new.bytes ≡ self.old.bytes }
     {
         let place = self.at;
@@ -87,8 +86,7 @@ impl<'a> Cursor<'a> {
 
     /// A node that node number `node` names.
     pub(crate) fn lower(&mut self, node: u32) -> Result<u32, Rejection>
-        ensures answer { Reads (ahead (grammar.lower node) self.old) result
-            self.new }
+        ensures answer { Reads (ahead (grammar.lower node) self.old) result self.new }
         ensures same { self.new.bytes ≡ self.old.bytes }
     {
         let place = self.at;

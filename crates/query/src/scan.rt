@@ -14,9 +14,7 @@ use refusal::rejection::Rejection;
 impl<'a> Cursor<'a> {
     /// At least `least` triples of a part.
     fn triples(&mut self, builder: &mut Builder, least: u32) -> Result<(), Rejection>
-        ensures answer { TookTriples least builder.old self.old result
-            builder.new
-            self.new }
+        ensures answer { TookTriples least builder.old self.old result builder.new self.new }
         ensures same { self.new.bytes ≡ self.old.bytes }
     {
         let count = self.count(least, builder.triple_room())?;
@@ -30,8 +28,7 @@ impl<'a> Cursor<'a> {
 
     /// The nodes of a filter.
     fn filter(&mut self, builder: &mut Builder) -> Result<(), Rejection>
-        ensures answer { TookFilter builder.old self.old result builder.new
-            self.new }
+        ensures answer { TookFilter builder.old self.old result builder.new self.new }
         ensures same { self.new.bytes ≡ self.old.bytes }
     {
         let count = self.count(0, builder.node_room())?;
@@ -46,9 +43,7 @@ impl<'a> Cursor<'a> {
     /// Block number `number` of an alternative.
     fn block(&mut self, builder: &mut Builder, number: usize) -> Result<(), Rejection>
         requires { number < most_blocks }
-        ensures answer { TookBlock number builder.old self.old result
-            builder.new
-            self.new }
+        ensures answer { TookBlock number builder.old self.old result builder.new self.new }
         ensures same { self.new.bytes ≡ self.old.bytes }
     {
         self.triples(builder, 1)?;
@@ -59,8 +54,7 @@ impl<'a> Cursor<'a> {
 
     /// The blocks of an alternative.
     fn blocks(&mut self, builder: &mut Builder) -> Result<(), Rejection>
-        ensures answer { TookBlocks builder.old self.old result builder.new
-            self.new }
+        ensures answer { TookBlocks builder.old self.old result builder.new self.new }
         ensures same { self.new.bytes ≡ self.old.bytes }
     {
         let count = self.count(0, MOST_BLOCKS as u32)?;
@@ -73,9 +67,7 @@ impl<'a> Cursor<'a> {
 
     /// An alternative.
     fn alternative(&mut self, builder: &mut Builder) -> Result<(), Rejection>
-        ensures answer { TookAlternative builder.old self.old result
-            builder.new
-            self.new }
+        ensures answer { TookAlternative builder.old self.old result builder.new self.new }
         ensures same { self.new.bytes ≡ self.old.bytes }
     {
         self.triples(builder, 0)?;
@@ -88,9 +80,7 @@ impl<'a> Cursor<'a> {
 
     /// The alternatives of a query.
     fn alternatives(&mut self, builder: &mut Builder) -> Result<(), Rejection>
-        ensures answer { TookAlternatives builder.old self.old result
-            builder.new
-            self.new }
+        ensures answer { TookAlternatives builder.old self.old result builder.new self.new }
         ensures same { self.new.bytes ≡ self.old.bytes }
     {
         let count = self.count(1, MOST_ALTERNATIVES)?;
@@ -104,8 +94,7 @@ impl<'a> Cursor<'a> {
 
 /// Reads the whole byte string into the builder, or says why it is no query.
 pub(crate) fn scan(bytes: &[u8], builder: &mut Builder) -> Result<(), Rejection>
-    ensures { Holds builder.old (finished [] [] []) unused
-        → Scanned bytes.now result builder.new }
+    ensures { Holds builder.old (finished [] [] []) unused → Scanned bytes.now result builder.new }
 {
     let mut cursor = Cursor { bytes, at: 0 };
     cursor.alternatives(builder)?;

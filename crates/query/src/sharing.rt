@@ -15,8 +15,7 @@ fn clashes(v: usize, required: &VariableSet, first: &VariableSet, second: &Varia
 
 /// Whether two of the blocks share a variable that the required triples lack.
 pub(crate) fn shares(required: &VariableSet, blocks: &[VariableSet]) -> bool
-    ensures { MatchBool result (Clash required.now blocks.now)
-        (Clash required.now blocks.now → ⊥) }
+    ensures { MatchBool result (Clash required.now blocks.now) (Clash required.now blocks.now → ⊥) }
 {
     let mut found = false;
     // Kept while nothing is found: no pair of blocks passed, and no variable passed of the pair in hand,

@@ -81,8 +81,7 @@ impl Query {
     /// Writes the query's bytes at the front of the buffer and answers their length; what stands behind
     /// them stays. A buffer that is shorter is refused by 34, with no place, and stays as it was.
     pub fn write(&self, out: &mut [u8]) -> Result<usize, Rejection>
-        ensures { Written (bytes_of (shape self.now)) out.old result
-            out.new }
+        ensures { Written (bytes_of (shape self.now)) out.old result out.new }
     {
         if out.len() < self.size {
             return Err(Rejection::unplaced(Refusal::BufferShort));

@@ -40,4 +40,5 @@ pub record Nearer (has : Triple → Bool) (a x y : ℕ) : Type 0 where
 pub record Traced (has : Triple → Bool) (a : ℕ) (xs : List ℕ) : Type 0 where
   pub each : AllByRecursion (Reached has a) xs
   pub all : (b : ℕ) → Reached has a b → Has xs b
-  pub order : (i j d : ℕ) → i < j → j < length xs → Nearer has a (slice_index_or xs i d) (slice_index_or xs j d)
+  pub order : (i j d : ℕ) → i < j → j < length xs
+      → Nearer has a (slice_index_or xs i d) (slice_index_or xs j d)

@@ -14,9 +14,8 @@ pub(crate) fn level<S: Store>(
     seen: &mut [bool],
 ) -> Result<Vec<u32>, AllocError>
     requires { (S.Store.meaning store.old).top < length seen.old }
-    ensures answer { IfOk result (λ v.
-        Level (S.Store.meaning store.old).has front.now seen.old
-        seen.new v.items) }
+    ensures answer { IfOk result (λ v. Level (S.Store.meaning store.old).has front.now seen.old seen.new
+        v.items) }
     ensures same { S.Store.meaning store.new ≡ S.Store.meaning store.old }
 {
     let mut found = Vec::new(heap);

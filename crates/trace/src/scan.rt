@@ -15,8 +15,7 @@ pub fn scan<S: Store>(
     store: &mut S,
     selector: Selector,
 ) -> Result<Vec<Triple>, AllocError>
-    ensures answer { IfOk result (λ v.
-        Scanned (S.Store.meaning store.old).has selector v.items) }
+    ensures answer { IfOk result (λ v. Scanned (S.Store.meaning store.old).has selector v.items) }
     ensures same { S.Store.meaning store.new ≡ S.Store.meaning store.old }
 {
     let mut found = Vec::new(heap);

@@ -11,8 +11,7 @@ use triples::store::Store;
 /// among them only where a cycle leads back to it; a number that is no subject reaches nothing. An error
 /// where memory is wanting. The store's meaning stays as it is.
 pub fn trace<S: Store>(heap: Global, store: &mut S, term: u32) -> Result<Vec<u32>, AllocError>
-    ensures answer { IfOk result (λ v.
-        Traced (S.Store.meaning store.old).has term v.items) }
+    ensures answer { IfOk result (λ v. Traced (S.Store.meaning store.old).has term v.items) }
     ensures same { S.Store.meaning store.new ≡ S.Store.meaning store.old }
 {
     let places = store.top() as usize + 1;

@@ -12,9 +12,7 @@ use triples::triple::ORIGIN;
 /// Marks the term as seen, and puts it behind those found unless it was seen before.
 fn note(term: u32, seen: &mut [bool], found: &mut Vec<u32>) -> Result<(), AllocError>
     requires { term < length seen.old }
-    ensures { IfOk result (λ _.
-        Noted term seen.old found.old.items
-        seen.new found.new.items) }
+    ensures { IfOk result (λ _. Noted term seen.old found.old.items seen.new found.new.items) }
 {
     let place = term as usize;
     if !seen[place] {
@@ -32,8 +30,7 @@ pub(crate) fn visit<S: Store>(
     found: &mut Vec<u32>,
 ) -> Result<(), AllocError>
     requires { (S.Store.meaning store.old).top < length seen.old }
-    ensures answer { IfOk result (λ _.
-        Visited (S.Store.meaning store.old).has term seen.old
+    ensures answer { IfOk result (λ _. Visited (S.Store.meaning store.old).has term seen.old
         found.old.items seen.new found.new.items) }
     ensures same { S.Store.meaning store.new ≡ S.Store.meaning store.old }
 {

@@ -6,7 +6,8 @@ use Rattle.std.specs.declared.cmp.Ordering.{Ordering}
 
 -- each element is below the next
 abbrev pub Ascends : {X : Type 0} → (X → X → Ordering → Type 0) → List X → Type 0
-Ascends {X} order xs = (k : ℕ) (d : X) → k + 1 < length xs → order (slice_index_or xs k d) (slice_index_or xs (k + 1) d) Less
+Ascends {X} order xs = (k : ℕ) (d : X) → k + 1 < length xs
+    → order (slice_index_or xs k d) (slice_index_or xs (k + 1) d) Less
 
 -- the element at i is not above the one before it
 pub record Falls {X : Type 0} (order : X → X → Ordering → Type 0) (xs : List X) (i : ℕ) : Type 0 where

@@ -24,13 +24,15 @@ itself t = t
 -- the triples that the elements stand for ascend strictly
 abbrev pub Ordered : {X : Type 0} → (X → Triple) → List X → Type 0
 Ordered {X} triple xs =
-    (k : ℕ) (d : X) → k + 1 < length xs → before (triple (slice_index_or xs k d)) (triple (slice_index_or xs (k + 1) d)) ≡ true
+    (k : ℕ) (d : X) → k + 1 < length xs
+    → before (triple (slice_index_or xs k d)) (triple (slice_index_or xs (k + 1) d)) ≡ true
 
 -- the triple at i is not above the one before it
 pub record NotAbove {X : Type 0} (triple : X → Triple) (xs : List X) (i : ℕ) : Type 0 where
   pub later : 0 < i
   pub inside : i < length xs
-  pub unless : (d : X) → before (triple (slice_index_or xs (i - 1) d)) (triple (slice_index_or xs i d)) ≡ false
+  pub unless : (d : X)
+      → before (triple (slice_index_or xs (i - 1) d)) (triple (slice_index_or xs i d)) ≡ false
 
 -- every element passes the test
 abbrev pub AllGood : {X : Type 0} → (X → Bool) → List X → Type 0

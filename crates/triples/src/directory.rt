@@ -48,8 +48,7 @@ fn is_next(directory: &[DirectoryEntry], i: usize) -> bool
 
 /// The first entry that is broken, in a table of so many pairs; none where all are good.
 pub(crate) fn first_broken(top: u32, directory: &[DirectoryEntry], pairs: usize) -> Option<usize>
-    ensures { MatchOption result (EntriesGood top directory.now pairs)
-        (FirstBroken top directory.now pairs) }
+    ensures { MatchOption result (EntriesGood top directory.now pairs) (FirstBroken top directory.now pairs) }
 {
     for i in 0..directory.len() {
         let entry = directory[i];

@@ -19,8 +19,7 @@ use refusal::rejection::Rejection;
 /// ascend.
 fn fall_in_entry(top: u32, directory: &[DirectoryEntry], pairs: &[Pair]) -> Option<usize>
     requires { EntriesGood top directory.now (length pairs.now) }
-    ensures { MatchOption result (SectionsOrdered directory.now pairs.now)
-        (Fallen directory.now pairs.now) }
+    ensures { MatchOption result (SectionsOrdered directory.now pairs.now) (Fallen directory.now pairs.now) }
 {
     for i in 0..directory.len() {
         if let Some(place) = fall(pairs_of(top, directory, pairs, i)) {

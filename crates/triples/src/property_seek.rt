@@ -55,8 +55,7 @@ fn leap_sections(
 ) -> Option<u32>
     requires good { EntriesGood top directory.now (length pairs.now) }
     requires ordered { SectionsOrdered directory.now pairs.now }
-    ensures { Leapt (among (table_triples directory.now pairs.now)) position selector bound
-        result }
+    ensures { Leapt (among (table_triples directory.now pairs.now)) position selector bound result }
 {
     let span = span_of(directory, selector.property);
     let mut least = None;

@@ -49,7 +49,8 @@ put_list-blocks-requires c =
     let a = c.args.self.now in
     let ts = vec_items a.required in
     let is = sym c.as_slice.ensures.value in
-    let w = subst (Writable lawful_triple) is (triples_writable 0 ts (group_limits (group_of a) c.requires.sound).required) in
+    let w = subst (Writable lawful_triple) is
+    (triples_writable 0 ts (group_limits (group_of a) c.requires.sound).required) in
     record {
       few = w.0;
       sound = w.1;
@@ -84,7 +85,8 @@ put_list-requires c =
     let a = c.args.self.now in
     let ns = vec_items a.filter in
     let is = sym c.as_slice-3.ensures.value in
-    let w = subst (Writable places_lawful) is (filter_writable ns (group_limits (group_of a) c.requires.sound).filter) in
+    let w = subst (Writable places_lawful) is
+    (filter_writable ns (group_limits (group_of a) c.requires.sound).filter) in
     record {
       few = w.0;
       sound = w.1;
