@@ -3,9 +3,10 @@
 
 usage: python3 tools/respell.py [FOLDER]     FOLDER is the repository (default: where it is run)
 
-The crate hex, whose name a library of the kit has, becomes hex_text. Whole words alone turn: in specs and proofs, in the clauses and ghost lines of sources, in the code spans of
-comments there, and in the code spans of docs and of the README. Strings stay, and so does a name behind a dot,
-unless it is a field of a record here, or a module of Rattle's or an imported module stands before the dot.
+The crate hex, whose name a library of the kit has, becomes hex_text. Whole words alone turn: in specs and
+proofs, in the clauses and ghost lines of sources, in the code spans of comments there, and in the code spans of
+docs and of the README. Strings stay, and so does a name behind a dot, unless it is a field of a record here, or
+a module of Rattle's or an imported module stands before the dot.
 A second run changes nothing.
 """
 
