@@ -2,7 +2,8 @@
 --     Entry          a kind and a value
 --     integer_of e   the number that e stands for; none where e is no integer
 --     Proper e       an integer has a signed 32-bit value, and any other kind the value 0
-use Rattle.std.specs.Prelude.{◌≡◌, ℕ, Bool, true, false, ◌&&◌, ℤ, pos, negsuc, Some, None, Option, ◌==◌, int_le}
+use Rattle.std.specs.Prelude.{◌≡◌, ℕ, Bool, true, false, ◌&&◌, ℤ, pos, negsuc, Some, None, Option, ◌==◌}
+use Rattle.std.specs.Prelude.{int_le}
 use Rattle.catalogue.specs.declared.kind.Kind.{Kind}
 use Rattle.catalogue.specs.declared.kind.Kind.TheVariants.{Name, Text, Integer}
 

@@ -1,5 +1,6 @@
 -- What the catalogues say of each number is proper; their ghost members cite the proofs. Assumes nothing.
-use Rattle.std.specs.Prelude.{◌≡◌, ℕ, suc, ◌-◌, ◌≤◌, Bool, true, false, ◌&&◌, leb, List, length, ℤ, pos, negsuc, Some, None, Option, nat_le, slice_index_or, refl}
+use Rattle.std.specs.Prelude.{◌≡◌, ℕ, suc, ◌-◌, ◌≤◌, Bool, true, false, ◌&&◌, leb, List, length, ℤ, pos}
+use Rattle.std.specs.Prelude.{negsuc, Some, None, Option, nat_le, slice_index_or, refl}
 use Rattle.std.proofs.Common.{arith}
 use Rattle.std.proofs.lemmas.Bool.{and_from, and_parts, cond_both, le-leb, leb-true}
 use Rattle.std.specs.Option.{unwrap_or}

@@ -1,7 +1,8 @@
 -- What a session's step answers, and what is current behind it. Assumes nothing.
 --     current s       the current query, by its alternatives; none where there is none
 --     Steps s c r t   from the session s, the command c is answered by r and leaves the session t
-use Rattle.std.specs.Prelude.{◌≡◌, ℕ, ◌<◌, ◌≤◌, ◌⊎◌, List, length, Some, None, Ok, Err, vec_items, Option, Result, Vec}
+use Rattle.std.specs.Prelude.{◌≡◌, ℕ, ◌<◌, ◌≤◌, ◌⊎◌, List, length, Some, None, Ok, Err, vec_items, Option}
+use Rattle.std.specs.Prelude.{Result, Vec}
 use Rattle.std.specs.Option.{option_map}
 use Rattle.refusal.specs.declared.refusal.Refusal.TheVariants.{BufferShort}
 use Rattle.refusal.specs.declared.rejection.Rejection.{Rejection}

@@ -5,7 +5,8 @@ use Rattle.query.specs.declared.inspect.Counts as inspect
 use Rattle.refusal.specs.declared.rejection.Rejection.{Rejection}
 use Rattle.refusal.specs.Numbers.{published}
 use Rattle.feedtrace_tables.specs.declared.answer.Answer.{Answer}
-use Rattle.feedtrace_tables.specs.declared.answer.Answer.TheVariants.{Nothing, Counts, Refused, Bytes, Shown, Task}
+use Rattle.feedtrace_tables.specs.declared.answer.Answer.TheVariants.{Nothing, Counts, Refused, Bytes, Shown}
+use Rattle.feedtrace_tables.specs.declared.answer.Answer.TheVariants.{Task}
 use Rattle.feedtrace_tables.specs.declared.answer.Answer.TheVariants.{Error}
 
 -- how much a query holds

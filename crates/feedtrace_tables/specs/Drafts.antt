@@ -1,6 +1,7 @@
 -- A table while its lines come in. Assumes nothing.
 --     drafted d text     the draft d with the element of the line text behind its list
-use Rattle.std.specs.Prelude.{◌≡◌, ℕ, ◌⊎◌, List, [], ◌∷◌, ◌++◌, Some, None, Ok, Err, vec_items, codes, Option, Result, MatchOption}
+use Rattle.std.specs.Prelude.{◌≡◌, ℕ, ◌⊎◌, List, [], ◌∷◌, ◌++◌, Some, None, Ok, Err, vec_items, codes, Option}
+use Rattle.std.specs.Prelude.{Result, MatchOption}
 use Rattle.triples.specs.declared.entry.DirectoryEntry.{DirectoryEntry}
 use Rattle.triples.specs.declared.pair.Pair.{Pair}
 use Rattle.triples.specs.declared.property_store.PropertyTable.{PropertyTable}

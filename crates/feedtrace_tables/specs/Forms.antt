@@ -10,7 +10,8 @@ use Rattle.feedtrace_tables.specs.declared.task.Task.{Task}
 use Rattle.feedtrace_tables.specs.declared.task.Task.TheVariants as task
 use Rattle.feedtrace_tables.specs.declared.verb.Verb.{Verb}
 use Rattle.feedtrace_tables.specs.declared.verb.Verb.TheVariants as verb
-use Rattle.feedtrace_tables.specs.Fields.{then, behind, first_number, first_triple, first_position, only_number}
+use Rattle.feedtrace_tables.specs.Fields.{then, behind, first_number, first_triple, first_position}
+use Rattle.feedtrace_tables.specs.Fields.{only_number}
 use Rattle.feedtrace_tables.specs.Fields.{only_triple}
 use Rattle.feedtrace_tables.specs.Words.{unindented}
 

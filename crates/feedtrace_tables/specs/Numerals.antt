@@ -1,7 +1,8 @@
 -- Numbers, as decimal digits. Assumes nothing.
 --     number_after n text      n with the digits of text behind its own
 --     number_from most text    the number that text says, if it says one up to most
-use Rattle.std.specs.Prelude.{ℕ, ◌+◌, ◌-◌, ◌*◌, Bool, false, cond, ◌&&◌, List, [], ◌∷◌, drop, ℤ, pos, neg_ℤ, Some, None, Option, ◌==◌, nat_le}
+use Rattle.std.specs.Prelude.{ℕ, ◌+◌, ◌-◌, ◌*◌, Bool, false, cond, ◌&&◌, List, [], ◌∷◌, drop, ℤ, pos, neg_ℤ}
+use Rattle.std.specs.Prelude.{Some, None, Option, ◌==◌, nat_le}
 
 -- the greatest number that a line may give
 abbrev pub most_number : ℕ

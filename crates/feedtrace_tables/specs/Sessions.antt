@@ -1,7 +1,8 @@
 -- What a session's step answers, and what is current behind it. Assumes nothing.
 --     current s       the current query, by its alternatives; none where there is none
 --     Steps s c r t   from the session s, the command c is answered by r and leaves the session t
-use Rattle.std.specs.Prelude.{◌≡◌, ℕ, ◌<◌, ◌≤◌, ◌⊎◌, List, length, Some, None, Ok, Err, vec_items, Option, Result, Vec, MatchOption}
+use Rattle.std.specs.Prelude.{◌≡◌, ℕ, ◌<◌, ◌≤◌, ◌⊎◌, List, length, Some, None, Ok, Err, vec_items, Option}
+use Rattle.std.specs.Prelude.{Result, Vec, MatchOption}
 use Rattle.std.specs.Option.{option_map}
 use Rattle.refusal.specs.declared.refusal.Refusal.TheVariants.{BufferShort}
 use Rattle.refusal.specs.declared.rejection.Rejection.{Rejection}
@@ -11,7 +12,8 @@ use Rattle.query.specs.Grammar.{accepted, rejected, verdict}
 use Rattle.query.specs.Parts.{Group}
 use Rattle.query.specs.Shape.{shape, counts_of}
 use Rattle.feedtrace_tables.specs.declared.answer.Answer.{Answer}
-use Rattle.feedtrace_tables.specs.declared.answer.Answer.TheVariants.{Nothing, Counts, Refused, Bytes, Shown, Task}
+use Rattle.feedtrace_tables.specs.declared.answer.Answer.TheVariants.{Nothing, Counts, Refused, Bytes, Shown}
+use Rattle.feedtrace_tables.specs.declared.answer.Answer.TheVariants.{Task}
 use Rattle.feedtrace_tables.specs.declared.answer.Answer.TheVariants.{Error}
 use Rattle.feedtrace_tables.specs.declared.command.Command.{Command}
 use Rattle.feedtrace_tables.specs.declared.command.Command.TheVariants as command

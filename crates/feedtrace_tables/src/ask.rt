@@ -1,5 +1,6 @@
 //! Questions to the current store and the current catalogue.
-ghost use Rattle.feedtrace_tables.specs.Tasks.{Asked, Looked, SeekAnswer, LeapAnswer, ScanAnswer, TraceAnswer};
+ghost use Rattle.feedtrace_tables.specs.Tasks.{Asked, Looked, SeekAnswer, LeapAnswer, ScanAnswer};
+ghost use Rattle.feedtrace_tables.specs.Tasks.{TraceAnswer};
 
 use crate::answer::Answer;
 use crate::expected::Expected;

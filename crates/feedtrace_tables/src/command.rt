@@ -2,7 +2,8 @@
 ghost use Rattle.hex_text.specs.Reading.{read_text};
 ghost use Rattle.feedtrace_tables.specs.Numerals.{number_from};
 ghost use Rattle.feedtrace_tables.specs.Forms.{task_form};
-ghost use Rattle.feedtrace_tables.specs.Requests.{most_length, asked, formed, query_of, write_at, show_before};
+ghost use Rattle.feedtrace_tables.specs.Requests.{most_length, asked, formed, query_of, write_at};
+ghost use Rattle.feedtrace_tables.specs.Requests.{show_before};
 ghost use Rattle.feedtrace_tables.specs.Requests.{Meets};
 
 use crate::expected::{Expected, MOST_LENGTH};

@@ -1,6 +1,7 @@
 //! The forms of tasks.
 ghost use Rattle.std.specs.Prelude.{◌≡◌};
-ghost use Rattle.feedtrace_tables.specs.Forms.{catalogue_form, inverse_form, withdrawn_form, seek_form, leap_form};
+ghost use Rattle.feedtrace_tables.specs.Forms.{catalogue_form, inverse_form, withdrawn_form, seek_form};
+ghost use Rattle.feedtrace_tables.specs.Forms.{leap_form};
 ghost use Rattle.feedtrace_tables.specs.Forms.{selector_of, task_form, question_form};
 
 use crate::field::{

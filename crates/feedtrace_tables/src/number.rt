@@ -1,6 +1,7 @@
 //! Numbers, as decimal digits.
 ghost use Rattle.std.specs.Prelude.{◌≡◌, ◌≤◌, true, length};
-ghost use Rattle.feedtrace_tables.specs.Numerals.{digit_value, number_from, signed_from, negative, below, above};
+ghost use Rattle.feedtrace_tables.specs.Numerals.{digit_value, number_from, signed_from, negative, below};
+ghost use Rattle.feedtrace_tables.specs.Numerals.{above};
 ghost use Rattle.feedtrace_tables.specs.Numerals.{most_below, most_above};
 
 /// The greatest number that a line may give.

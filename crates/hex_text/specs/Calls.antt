@@ -1,5 +1,6 @@
 -- What parse answers. Assumes nothing.
-use Rattle.std.specs.Prelude.{◌≡◌, ℕ, true, List, is_some, Some, None, Ok, Err, vec_items, Option, Result, Vec}
+use Rattle.std.specs.Prelude.{◌≡◌, ℕ, true, List, is_some, Some, None, Ok, Err, vec_items, Option, Result}
+use Rattle.std.specs.Prelude.{Vec}
 use Rattle.std.specs.declared.alloc.Global.{Global}
 use Rattle.hex_text.specs.declared.parse.ParseError.{ParseError}
 use Rattle.hex_text.specs.declared.parse.ParseError.TheVariants.{NotHex, Memory}

@@ -1,5 +1,7 @@
 -- Laws of lists in which no triple stands twice. Assumes nothing.
-use Rattle.std.proofs.Common.{◌≡◌, ℕ, zero, suc, ◌+◌, ◌-◌, ◌<◌, ◌≤◌, Bool, true, false, not, ◌&&◌, ◌||◌, leb, List, [], ◌∷◌, ◌++◌, length, get_or, take, set, is_some, Some, None, Option, sym, refl, ap, ◌∙◌, subst, ⊎_elim, arith}
+use Rattle.std.proofs.Common.{◌≡◌, ℕ, zero, suc, ◌+◌, ◌-◌, ◌<◌, ◌≤◌, Bool, true, false, not, ◌&&◌, ◌||◌, leb}
+use Rattle.std.proofs.Common.{List, [], ◌∷◌, ◌++◌, length, get_or, take, set, is_some, Some, None, Option}
+use Rattle.std.proofs.Common.{sym, refl, ap, ◌∙◌, subst, ⊎_elim, arith}
 use Rattle.std.proofs.lemmas.List.{length-set, length-take-le, get_or-take, take_more, take-set-le}
 use Rattle.std.proofs.lemmas.Bool.{cases_Bool, cases_eq, leb-false, or_from, or_left, or_right}
 use Rattle.std.proofs.lemmas.Bool.Decides.{nat_tests}
@@ -61,12 +63,12 @@ module _ (xs : List Triple) where
       ap (λ ys. occurrences ys t) (take_more xs m origin h)
       ∙ omega (arith, occurrences-append (take m xs) (get_or xs m origin ∷ []) t)
 
-among-getD : (xs : List Triple) (i : ℕ) (t : Triple) → i < length xs → get_or xs i origin ≡ t
+among-get_or : (xs : List Triple) (i : ℕ) (t : Triple) → i < length xs → get_or xs i origin ≡ t
     → among xs t ≡ true
-among-getD [] i t h e = absurd (omega arith)
-among-getD (x ∷ xs) zero t h e =
+among-get_or [] i t h e = absurd (omega arith)
+among-get_or (x ∷ xs) zero t h e =
     or_left (same x t) (among xs t) (ap (λ y. same y t) e ∙ same_itself t)
-among-getD (x ∷ xs) (suc i) t h e = or_right (same x t) (among xs t) (among-getD xs i t (omega arith) e)
+among-get_or (x ∷ xs) (suc i) t h e = or_right (same x t) (among xs t) (among-get_or xs i t (omega arith) e)
 
 -- one triple more, one fewer
 
@@ -129,7 +131,7 @@ module _ (xs ys : List Triple) (t : Triple) (once : Once xs)
 
 pub found_among : (xs : List Triple) (t : Triple) (r : Option ℕ) → Found xs t r → is_some r ≡ among xs t
 found_among xs t None h = sym h
-found_among xs t (Some i) h = sym (among-getD xs i t h.0 h.1)
+found_among xs t (Some i) h = sym (among-get_or xs i t h.0 h.1)
 
 -- the first n entries with the last of them moved over entry i, which is t: one entry fewer, and t is gone
 module _ (xs : List Triple) (n i : ℕ) (t : Triple) (room : n ≤ length xs) (once : Once (take n xs))
@@ -152,7 +154,7 @@ module _ (xs : List Triple) (n i : ℕ) (t : Triple) (room : n ≤ length xs) (o
 
   pub removed_moved : Removed (take n xs) t true moved
   removed_moved = (
-    among-getD (take n xs) i t found.0 found.1,
+    among-get_or (take n xs) i t found.0 found.1,
     among_less (take n xs) moved t once less,
     omega (
       arith,

@@ -1,6 +1,7 @@
 -- What a store stands for when triples are withdrawn from it, and what withdrawing and restoring one answer.
 -- Assumes nothing.
-use Rattle.std.specs.Prelude.{◌≡◌, Bool, false, cond, not, ◌&&◌, List, [], ◌∷◌, ◌++◌, length, is_ok, Some, None, Ok, Err, Option, Result, nat_lt}
+use Rattle.std.specs.Prelude.{◌≡◌, Bool, false, cond, not, ◌&&◌, List, [], ◌∷◌, ◌++◌, length, is_ok, Some}
+use Rattle.std.specs.Prelude.{None, Ok, Err, Option, Result, nat_lt}
 use Rattle.refusal.specs.declared.refusal.Refusal.{Refusal}
 use Rattle.refusal.specs.declared.refusal.Refusal.TheVariants.{AlreadyWithdrawn, NotStored, WithdrawnFull}
 use Rattle.refusal.specs.declared.refusal.Refusal.TheVariants.{NotWithdrawn}

@@ -1,6 +1,6 @@
 //! Two stores that answer the same, whatever is asked.
 use crate::stores::{number_of, numbers_of};
-use std::process::Abort;
+use std::test::Fail;
 use triples::position::Position;
 use triples::selector::Selector;
 use triples::store::Store;
@@ -42,8 +42,12 @@ fn leaps_agree<A: Store, B: Store>(one: &mut A, other: &mut B, selector: Selecto
     true
 }
 
-/// Both answer the same for every selector, and have the same top.
-pub(crate) fn agree<A: Store, B: Store>(rt: &impl Abort, name: &str, one: &mut A, other: &mut B) {
+/// Fails under the name, unless both answer the same for every selector and have the same top.
+pub(crate) fn agree<A: Store, B: Store>(
+    name: &str,
+    one: &mut A,
+    other: &mut B,
+) -> Result<(), Fail> {
     for subject in NUMBERS {
         for property in NUMBERS {
             for object in NUMBERS {
@@ -52,10 +56,17 @@ pub(crate) fn agree<A: Store, B: Store>(rt: &impl Abort, name: &str, one: &mut A
                     property,
                     object,
                 };
-                assert!(rt; seeks_agree(one, other, selector), "seek: {}", name);
-                assert!(rt; leaps_agree(one, other, selector), "leap: {}", name);
+                if !seeks_agree(one, other, selector) {
+                    return Err(Fail::new(format_args!("seek: {name}")));
+                }
+                if !leaps_agree(one, other, selector) {
+                    return Err(Fail::new(format_args!("leap: {name}")));
+                }
             }
         }
     }
-    assert_eq!(rt; one.top(), other.top(), "{}", name);
+    if one.top() != other.top() {
+        return Err(Fail::new(format_args!("top: {name}")));
+    }
+    Ok(())
 }

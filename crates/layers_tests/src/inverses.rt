@@ -123,7 +123,7 @@ fn a_property_that_is_no_term_is_refused_and_the_store_comes_back(
                 let refusal = declined.rejection.refusal.number();
                 assert_eq!(rt; (refusal, declined.rejection.place), (25, 0), "{}", name);
                 let mut given = declined.given;
-                agree(&rt, name, &mut given, &mut row_store(rt.alloc(), &LIST)?);
+                agree(name, &mut given, &mut row_store(rt.alloc(), &LIST)?)?;
             }
         }
     }
@@ -134,7 +134,7 @@ fn a_property_that_is_no_term_is_refused_and_the_store_comes_back(
 fn the_turned_triples_come_with_those_below(rt: HostRuntime) -> Result<(), Fail> {
     for (name, property, inverse, list) in TURNED {
         match Inverse::new(property_store(rt.alloc())?, property, inverse) {
-            Ok(mut store) => agree(&rt, name, &mut store, &mut row_store(rt.alloc(), list)?),
+            Ok(mut store) => agree(name, &mut store, &mut row_store(rt.alloc(), list)?)?,
             Err(_) => return Err(Fail::new(name)),
         }
     }

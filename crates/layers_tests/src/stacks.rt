@@ -72,20 +72,18 @@ fn withdrawing_over_an_inverse_leaves_the_turned_triple(rt: HostRuntime) -> Resu
     for (triple, refusal, list) in WITHDRAWN_OVER_INVERSE {
         assert_eq!(rt; outcome(store.withdraw(triple_of(triple))), (refusal, 0));
         agree(
-            &rt,
             "over an inverse",
             &mut store,
             &mut row_store(rt.alloc(), list)?,
-        );
+        )?;
     }
     let mut table = store.into_below().into_below();
     assert_eq!(rt; (table.entries(), table.len()), (5, 6));
     agree(
-        &rt,
         "the store below",
         &mut table,
         &mut row_store(rt.alloc(), &LIST)?,
-    );
+    )?;
     Ok(())
 }
 
@@ -97,11 +95,10 @@ fn withdrawing_below_an_inverse_takes_the_turned_triple_too(rt: HostRuntime) -> 
         return Err(Fail::new("the inverse was refused"));
     };
     agree(
-        &rt,
         "below an inverse",
         &mut store,
         &mut row_store(rt.alloc(), &INVERSE_OVER_WITHDRAWN)?,
-    );
+    )?;
     assert_eq!(rt; store.into_below().count(), 1);
     Ok(())
 }

@@ -3,7 +3,6 @@ use crate::agreeing::agree;
 use crate::stores::{LIST, number_of, numbers_of, outcome, row_store, triple_of};
 use layers::withdrawn::Withdrawn;
 use std::alloc::Global;
-use std::process::Abort;
 use std::test::Fail;
 use triples::position::Position;
 use triples::row_store::RowStore;
@@ -219,8 +218,8 @@ const EVERY: Selector = Selector {
     object: 0,
 };
 
-/// Whether the calls answer as they say.
-fn steps_hold(rt: &impl Abort, store: &mut Withdrawn<RowStore>, steps: &[Step]) {
+/// Fails under a call's name, unless each answers as it says.
+fn steps_hold(store: &mut Withdrawn<RowStore>, steps: &[Step]) -> Result<(), Fail> {
     for step in steps {
         let triple = triple_of(step.triple);
         let answer = if step.withdraws {
@@ -228,9 +227,11 @@ fn steps_hold(rt: &impl Abort, store: &mut Withdrawn<RowStore>, steps: &[Step]) 
         } else {
             outcome(store.restore(triple))
         };
-        assert_eq!(rt; answer, (step.refusal, 0), "{}", step.name);
-        assert_eq!(rt; store.count(), step.count, "{}", step.name);
+        if answer != (step.refusal, 0) || store.count() != step.count {
+            return Err(Fail::new(step.name));
+        }
     }
+    Ok(())
 }
 
 /// The subjects from 1 to 257, each with property 1 and object 1.
@@ -251,14 +252,13 @@ fn calls_answer_as_the_table_says_and_change_no_more_than_that(
 ) -> Result<(), Fail> {
     let mut store = Withdrawn::new(row_store(rt.alloc(), &LIST)?);
     assert_eq!(rt; store.count(), 0);
-    steps_hold(&rt, &mut store, &STEPS);
-    agree(&rt, "left", &mut store, &mut row_store(rt.alloc(), &LEFT)?);
+    steps_hold(&mut store, &STEPS)?;
+    agree("left", &mut store, &mut row_store(rt.alloc(), &LEFT)?)?;
     agree(
-        &rt,
         "the store below",
         &mut store.into_below(),
         &mut row_store(rt.alloc(), &LIST)?,
-    );
+    )?;
     Ok(())
 }
 
@@ -267,12 +267,7 @@ fn seek_and_leap_pass_over_what_is_withdrawn(rt: HostRuntime) -> Result<(), Fail
     let mut store = Withdrawn::new(row_store(rt.alloc(), &LIST)?);
     for (triple, rest) in RESTS {
         assert_eq!(rt; outcome(store.withdraw(triple_of(triple))), (0, 0));
-        agree(
-            &rt,
-            "the rest",
-            &mut store,
-            &mut row_store(rt.alloc(), rest)?,
-        );
+        agree("the rest", &mut store, &mut row_store(rt.alloc(), rest)?)?;
     }
     assert_eq!(rt; store.count(), 6);
     Ok(())
@@ -287,7 +282,7 @@ fn with_256_withdrawn_there_is_no_room_for_one_more(rt: HostRuntime) -> Result<(
     assert_eq!(rt; store.count(), 256);
     assert_eq!(rt; numbers_of(store.seek(EVERY, ORIGIN)), (257, 1, 1));
     assert_eq!(rt; number_of(store.leap(Position::Subject, EVERY, 0)), 257);
-    steps_hold(&rt, &mut store, &WHEN_FULL);
+    steps_hold(&mut store, &WHEN_FULL)?;
     assert_eq!(rt; numbers_of(store.seek(EVERY, ORIGIN)), (1, 1, 1));
     assert_eq!(rt; number_of(store.leap(Position::Subject, EVERY, 2)), 0);
     Ok(())

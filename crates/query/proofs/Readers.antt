@@ -1,7 +1,8 @@
 -- Laws of the grammar's combinators: a reader and a writing that fit each other. Assumes nothing.
 --     Stops p at bs r q   p refuses a number of bs for what it is, whatever stands behind that number
 --     Codec p enc Ok      p takes exactly the writings of what is Ok, and a refusal of one number is for good
-use Rattle.std.proofs.Common.{◌≡◌, ℕ, ◌+◌, ◌-◌, ◌≤◌, Bool, true, false, ◌⊎◌, List, ◌++◌, length, take, drop, Some, None, Option, sym, refl, ap, ◌∙◌, subst, inl, inr, ⊎_elim, arith}
+use Rattle.std.proofs.Common.{◌≡◌, ℕ, ◌+◌, ◌-◌, ◌≤◌, Bool, true, false, ◌⊎◌, List, ◌++◌, length, take, drop}
+use Rattle.std.proofs.Common.{Some, None, Option, sym, refl, ap, ◌∙◌, subst, inl, inr, ⊎_elim, arith}
 use Rattle.std.proofs.lemmas.List.{drop_at, take-append-drop, length-take-le}
 use Rattle.varint.specs.Encode.{encode, largest}
 use Rattle.varint.specs.Decode.{Decoded, ends_early, malformed, decoded, decode, span}

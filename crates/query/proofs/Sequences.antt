@@ -1,6 +1,7 @@
 -- Laws of parts read one behind the other, and of so many items. Assumes nothing.
 --     Each Ok step s xs   every element is Ok at the state that the ones before it lead to
-use Rattle.std.proofs.Common.{◌≡◌, ℕ, zero, suc, ◌+◌, ◌-◌, ◌≤◌, true, List, [], ◌∷◌, ◌++◌, length, drop, sym, refl, ap, ◌∙◌, subst, ⊎_elim, arith}
+use Rattle.std.proofs.Common.{◌≡◌, ℕ, zero, suc, ◌+◌, ◌-◌, ◌≤◌, true, List, [], ◌∷◌, ◌++◌, length, drop, sym}
+use Rattle.std.proofs.Common.{refl, ap, ◌∙◌, subst, ⊎_elim, arith}
 use Rattle.std.proofs.lemmas.List.{append_assoc, length-append, drop_at, drop-drop}
 use Rattle.std.specs.List.{flat_map}
 use Rattle.varint.specs.Encode.{encode, largest}

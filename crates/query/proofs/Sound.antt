@@ -1,6 +1,7 @@
 -- What a lawful query's lists have that writing them asks for. Assumes nothing.
 --     Writable ok xs     few enough to count in 32 bits, and each is ok
-use Rattle.std.proofs.Common.{◌≡◌, ℕ, ◌+◌, ◌≤◌, Bool, true, ◌&&◌, List, [], ◌∷◌, ◌++◌, map, length, sym, refl, ap, ◌∙◌, arith}
+use Rattle.std.proofs.Common.{◌≡◌, ℕ, ◌+◌, ◌≤◌, Bool, true, ◌&&◌, List, [], ◌∷◌, ◌++◌, map, length, sym, refl}
+use Rattle.std.proofs.Common.{ap, ◌∙◌, arith}
 use Rattle.std.proofs.lemmas.List.{length-map}
 use Rattle.std.proofs.lemmas.Bool.{and_parts}
 use Rattle.std.proofs.lemmas.List.Elements.{All-nil, All-cons}
@@ -75,13 +76,13 @@ mapped_writable f ok low high xs s h e = (
   all_every (λ x. ok (f x)) xs (sym (every_map f ok xs) ∙ e),
 )
 
-joined-map : {A B : Type 0} (f : A → B) (code : B → List ℕ) (xs : List A) → flat_map (λ x. code (f x)) xs
+flat_map-map : {A B : Type 0} (f : A → B) (code : B → List ℕ) (xs : List A) → flat_map (λ x. code (f x)) xs
     ≡ flat_map code (map f xs)
-joined-map f code [] = refl
-joined-map f code (x ∷ xs) = ap (λ l. code (f x) ++ l) (joined-map f code xs)
+flat_map-map f code [] = refl
+flat_map-map f code (x ∷ xs) = ap (λ l. code (f x) ++ l) (flat_map-map f code xs)
 
 pub counted-map : {A B : Type 0} (f : A → B) (code : B → List ℕ) (xs : List A) → counted (λ x. code (f x)) xs
     ≡ counted code (map f xs)
 counted-map f code xs =
     ap (λ n. encode n ++ flat_map (λ x. code (f x)) xs) (sym (length-map xs f))
-    ∙ ap (λ l. encode (length (map f xs)) ++ l) (joined-map f code xs)
+    ∙ ap (λ l. encode (length (map f xs)) ++ l) (flat_map-map f code xs)

@@ -2,7 +2,8 @@
 --     lawful q     the query whose alternatives are q keeps every limit, and its blocks share variables
 --                  only with
 --                  the required triples
-use Rattle.std.specs.Prelude.{ℕ, zero, suc, ◌+◌, Bool, true, false, not, ◌&&◌, ◌||◌, List, [], ◌∷◌, length, ◌==◌, nat_le, nat_lt}
+use Rattle.std.specs.Prelude.{ℕ, zero, suc, ◌+◌, Bool, true, false, not, ◌&&◌, ◌||◌, List, [], ◌∷◌, length}
+use Rattle.std.specs.Prelude.{◌==◌, nat_le, nat_lt}
 use Rattle.query.specs.declared.place.Place.{Place}
 use Rattle.query.specs.declared.place.Place.TheVariants.{Variable, Term}
 use Rattle.query.specs.declared.node.Node.{Node}

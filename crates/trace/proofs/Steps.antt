@@ -1,7 +1,9 @@
 -- The levels of a trace: each has the terms that one step more leads to, and the first empty one is the last.
 -- Assumes nothing.
-use Rattle.std.proofs.Common.{◌≡◌, ℕ, zero, suc, ◌-◌, ◌<◌, ◌≤◌, Bool, true, false, ◌⊎◌, List, [], ◌∷◌, ◌++◌, length, get_or, replicate, sym, refl, subst, subst₂, inl, inr, ⊎_elim, arith}
-use Rattle.std.proofs.ByRecursion.{All-append, All-get_or, all-has, all_has_itself, All-weaker, has_append_left, has_append_right, has_get_or, has_push, has_push_cases}
+use Rattle.std.proofs.Common.{◌≡◌, ℕ, zero, suc, ◌-◌, ◌<◌, ◌≤◌, Bool, true, false, ◌⊎◌, List, [], ◌∷◌, ◌++◌}
+use Rattle.std.proofs.Common.{length, get_or, replicate, sym, refl, subst, subst₂, inl, inr, ⊎_elim, arith}
+use Rattle.std.proofs.ByRecursion.{All-append, All-get_or, all-has, all_has_itself, All-weaker}
+use Rattle.std.proofs.ByRecursion.{has_append_left, has_append_right, has_get_or, has_push, has_push_cases}
 use Rattle.std.proofs.lemmas.List.{length-append, get_or_append_left, get_or-append_right}
 use Rattle.std.proofs.lemmas.Bool.{both_ways, cases_lt}
 use Rattle.std.specs.List.{ContainsAt as Has, AllByRecursion}

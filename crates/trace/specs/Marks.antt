@@ -1,5 +1,6 @@
 -- Numbers that are gathered into a list, each once, with a mark at each number met. Assumes nothing.
-use Rattle.std.specs.Prelude.{◌≡◌, ℕ, ◌+◌, ◌≤◌, Bool, true, false, cond, not, ◌⊎◌, List, [], ◌∷◌, ◌++◌, length, count_by, nat_eq, slice_index_or, slice_set}
+use Rattle.std.specs.Prelude.{◌≡◌, ℕ, ◌+◌, ◌≤◌, Bool, true, false, cond, not, ◌⊎◌, List, [], ◌∷◌, ◌++◌}
+use Rattle.std.specs.Prelude.{length, count_by, nat_eq, slice_index_or, slice_set}
 use Rattle.std.specs.List.{ContainsAt as Has, AllByRecursion}
 
 -- whether y is marked; a number past the end of the marks is not

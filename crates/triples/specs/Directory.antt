@@ -1,6 +1,7 @@
 -- The table of a property store: a directory and one list of pairs. Assumes nothing.
 --     section dir pairs i     the pairs of entry i
-use Rattle.std.specs.Prelude.{◌≡◌, ℕ, zero, suc, ◌+◌, ◌-◌, ◌<◌, Bool, true, false, cond, ◌&&◌, List, [], ◌++◌, map, length, take, drop, ◌==◌, nat_le, nat_lt, slice_index_or}
+use Rattle.std.specs.Prelude.{◌≡◌, ℕ, zero, suc, ◌+◌, ◌-◌, ◌<◌, Bool, true, false, cond, ◌&&◌, List, [], ◌++◌}
+use Rattle.std.specs.Prelude.{map, length, take, drop, ◌==◌, nat_le, nat_lt, slice_index_or}
 use Rattle.triples.specs.declared.entry.DirectoryEntry.{DirectoryEntry}
 use Rattle.triples.specs.declared.pair.Pair.{Pair}
 use Rattle.triples.specs.declared.triple.Triple.{Triple}

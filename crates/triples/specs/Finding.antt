@@ -1,5 +1,6 @@
 -- Where a start stands in an ordered list. Assumes nothing.
-use Rattle.std.specs.Prelude.{◌≡◌, ℕ, ◌<◌, ◌≤◌, true, false, cond, List, length, Some, None, Option, MatchOption, slice_index_or}
+use Rattle.std.specs.Prelude.{◌≡◌, ℕ, ◌<◌, ◌≤◌, true, false, cond, List, length, Some, None, Option}
+use Rattle.std.specs.Prelude.{MatchOption, slice_index_or}
 use Rattle.triples.specs.declared.position.Position.{Position}
 use Rattle.triples.specs.declared.selector.Selector.{Selector}
 use Rattle.triples.specs.declared.triple.Triple.{Triple}
@@ -22,7 +23,7 @@ Silent {X} triple xs selector from to =
     (k : ℕ) (d : X) → from ≤ k → k < to → matches selector (triple (slice_index_or xs k d)) ≡ false
 
 -- t matches the selector, and is the first to do so from the place `from` on
-pub record First-match {X : Type 0} (triple : X → Triple) (xs : List X) (selector : Selector) (from : ℕ)
+pub record FirstMatch {X : Type 0} (triple : X → Triple) (xs : List X) (selector : Selector) (from : ℕ)
     (t : Triple)
     : Type 0 where
   pub at : ℕ
@@ -35,7 +36,7 @@ pub record First-match {X : Type 0} (triple : X → Triple) (xs : List X) (selec
 -- r is the first triple that matches from the place `from` on, or none where none matches
 abbrev pub Met : {X : Type 0} → (X → Triple) → List X → Selector → ℕ → Option Triple → Type 0
 Met triple xs selector from r =
-    MatchOption r (Silent triple xs selector from (length xs)) (First-match triple xs selector from)
+    MatchOption r (Silent triple xs selector from (length xs)) (FirstMatch triple xs selector from)
 
 -- the number at the position of t, if t matches the selector and the number is not below the bound
 abbrev pub offer_of : Triple → Position → Selector → ℕ → Option ℕ

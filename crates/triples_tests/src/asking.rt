@@ -2,7 +2,6 @@
 use crate::bare::Bare;
 use crate::lists::{rows, table};
 use crate::plain::{least, smallest};
-use std::process::Abort;
 use std::test::Fail;
 use triples::position::Position;
 use triples::property_store::PropertyStore;
@@ -139,8 +138,8 @@ fn leaps_agree<S: Store>(store: &mut S, selector: Selector) -> bool {
     true
 }
 
-/// Whether seek and leap answer as the loops do, and the top is 5, for every selector.
-fn agrees<S: Store>(rt: &impl Abort, store: &mut S) {
+/// Fails, unless seek and leap answer as the loops do for every selector, and the top is 5.
+fn agrees<S: Store>(store: &mut S) -> Result<(), Fail> {
     for subject in NUMBERS {
         for property in NUMBERS {
             for object in NUMBERS {
@@ -149,20 +148,30 @@ fn agrees<S: Store>(rt: &impl Abort, store: &mut S) {
                     property,
                     object,
                 };
-                assert!(rt; seeks_agree(store, selector), "seek");
-                assert!(rt; leaps_agree(store, selector), "leap");
+                if !seeks_agree(store, selector) {
+                    return Err(Fail::new("seek"));
+                }
+                if !leaps_agree(store, selector) {
+                    return Err(Fail::new("leap"));
+                }
             }
         }
     }
-    assert_eq!(rt; store.top(), 5);
+    if store.top() != 5 {
+        return Err(Fail::new("top"));
+    }
+    Ok(())
 }
 
-/// Whether seek answers as the table says.
-fn seeks_as_listed<S: Store>(rt: &impl Abort, store: &mut S) {
+/// Fails under a row's name, unless seek answers as the table says.
+fn seeks_as_listed<S: Store>(store: &mut S) -> Result<(), Fail> {
     for (name, selector, start, sought) in SOUGHT {
         let found = store.seek(selector_of(selector), triple_of(start));
-        assert_eq!(rt; numbers_of(found), sought, "{}", name);
+        if numbers_of(found) != sought {
+            return Err(Fail::new(name));
+        }
     }
+    Ok(())
 }
 
 #[test]
@@ -170,9 +179,8 @@ fn a_row_store_answers_as_a_loop_over_its_list(rt: HostRuntime) -> Result<(), Fa
     let Ok(mut store) = RowStore::load(5, rows(rt.alloc(), &LIST)?) else {
         return Err(Fail::new("refused"));
     };
-    seeks_as_listed(&rt, &mut store);
-    agrees(&rt, &mut store);
-    Ok(())
+    seeks_as_listed(&mut store)?;
+    agrees(&mut store)
 }
 
 #[test]
@@ -180,9 +188,8 @@ fn a_property_store_answers_as_a_loop_over_the_list(rt: HostRuntime) -> Result<(
     let Ok(mut store) = PropertyStore::load(5, table(rt.alloc(), &DIRECTORY, &PAIRS)?) else {
         return Err(Fail::new("refused"));
     };
-    seeks_as_listed(&rt, &mut store);
-    agrees(&rt, &mut store);
-    Ok(())
+    seeks_as_listed(&mut store)?;
+    agrees(&mut store)
 }
 
 #[test]
@@ -190,6 +197,5 @@ fn a_leap_by_seeks_alone_answers_as_a_loop_over_the_list(rt: HostRuntime) -> Res
     let Ok(inner) = RowStore::load(5, rows(rt.alloc(), &LIST)?) else {
         return Err(Fail::new("refused"));
     };
-    agrees(&rt, &mut Bare { inner });
-    Ok(())
+    agrees(&mut Bare { inner })
 }

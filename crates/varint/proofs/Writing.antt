@@ -1,6 +1,7 @@
 -- What a writer that puts one group after the other keeps, and what the buffer holds in the end.
 -- Assumes nothing.
-use Rattle.std.proofs.Common.{◌≡◌, ℕ, suc, ◌+◌, ◌/◌, ◌%◌, ◌<◌, ◌≤◌, List, ◌∷◌, length, take, drop, set, sym, ap, ◌∙◌, append_assoc, arith}
+use Rattle.std.proofs.Common.{◌≡◌, ℕ, suc, ◌+◌, ◌/◌, ◌%◌, ◌<◌, ◌≤◌, List, ◌∷◌, length, take, drop, set, sym}
+use Rattle.std.proofs.Common.{ap, ◌∙◌, append_assoc, arith}
 use lib.Seq.{sets, sets-eq}
 use Rattle.varint.specs.Calls.{placed}
 use Rattle.varint.specs.Encode.{encode, largest}

@@ -3,7 +3,8 @@
 --                     0 where there is none
 --     value bytes     the number that the groups of bytes make, the lowest first
 --     decode bytes    the first number and its length, or why there is none
-use Rattle.std.specs.Prelude.{ℕ, zero, suc, ◌+◌, ◌*◌, ◌%◌, Bool, true, false, cond, ◌&&◌, List, [], ◌∷◌, length, take, ◌==◌, nat_le, nat_lt}
+use Rattle.std.specs.Prelude.{ℕ, zero, suc, ◌+◌, ◌*◌, ◌%◌, Bool, true, false, cond, ◌&&◌, List, [], ◌∷◌}
+use Rattle.std.specs.Prelude.{length, take, ◌==◌, nat_le, nat_lt}
 use Rattle.varint.specs.Encode.{encode, largest}
 
 -- the first number of a byte string: it has no last byte, it is not as it would be written,
