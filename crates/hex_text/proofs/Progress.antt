@@ -12,9 +12,9 @@ use Rattle.hex_text.proofs.Reading.{byte_within, read_byte, read_end, read_pass,
 
 -- led_by
 
-isSome_led : (b : ℕ) (m : Option (List ℕ)) → is_some (led_by (Some b) m) ≡ is_some m
-isSome_led b None = refl
-isSome_led b (Some bs) = refl
+is_some-led_by : (b : ℕ) (m : Option (List ℕ)) → is_some (led_by (Some b) m) ≡ is_some m
+is_some-led_by b None = refl
+is_some-led_by b (Some bs) = refl
 
 mapped_led : (xs : List ℕ) (b : ℕ) (m : Option (List ℕ))
     → option_map (λ ys. xs ++ ys) (led_by (Some b) m) ≡ option_map (λ ys. (xs ++ b ∷ []) ++ ys) m
@@ -32,7 +32,7 @@ module _ {text : List ℕ} {at : ℕ} (left : Undecided text at) where
   pub undecided_byte : (b : ℕ) → front (drop at text) ≡ Some b → Undecided text (at + 2)
   undecided_byte b e = record {
     within = byte_within text at b e;
-    alike = left.alike ∙ ap is_some (read_byte text at b e) ∙ isSome_led b (read_text (drop (at + 2) text));
+    alike = left.alike ∙ ap is_some (read_byte text at b e) ∙ is_some-led_by b (read_text (drop (at + 2) text));
   }
 
   pub undecided_space : at < length text → get_or text at 0 ≡ space → Undecided text (at + 1)

@@ -27,9 +27,9 @@ encode_digit c n h e = ap encode e ∙ encode_ascii (digit_of n) (grind (arith, 
 
 pub encode_pair : (b high low : ℕ) → b < 256 → high ≡ digit_of (b / 16) → low ≡ digit_of (b % 16)
     → encode high ++ encode low ≡ pair b
-encode_pair b high low h is-high is-low =
-    let first = encode_digit high (b / 16) (omega arith) is-high
-    in let second = encode_digit low (b % 16) (omega arith) is-low
+encode_pair b high low h is_high is_low =
+    let first = encode_digit high (b / 16) (omega arith) is_high
+    in let second = encode_digit low (b % 16) (omega arith) is_low
     in cc
 
 parted-spaced : (bs : List ℕ) → parted (spaced bs) ≡ true

@@ -12,7 +12,7 @@ use Rattle.triples.specs.Order.{before, value_at}
 use Rattle.triples.specs.Selectors.{matches, select}
 use Rattle.triples.specs.Seeks.{Candidate, Least, Sought, Offer, Lowest, Leapt}
 use Rattle.triples.proofs.Seeks.{value_term}
-use Rattle.triples.proofs.Selectors.{select-matches, select-value}
+use Rattle.triples.proofs.Selectors.{select-matches, select_value}
 
 -- a triple with n at the position matches the selector, so the selector's entry there is 0 or n
 pub select_back_value : (s : Selector) (p : Position) (n : ℕ) (t u : Triple) → matches s t ≡ true
@@ -69,7 +69,7 @@ module _ (A : Triple → Bool) (s : Selector) (start : Triple) where
   least_of_subject : (low n : ℕ) → From low → Lowest A Subject s low n → 1 ≤ n → (t : Triple)
       → Least A (select s Subject n) start t → Least A s start t
   least_of_subject low n from l one t f =
-      let is = select-value s Subject n t one f.candidate.fit in
+      let is = select_value s Subject n t one f.candidate.fit in
       record {
         candidate = record {
           held = f.candidate.held;

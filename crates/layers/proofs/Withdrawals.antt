@@ -16,7 +16,7 @@ use Rattle.triples.specs.Selectors.{select}
 use Rattle.triples.specs.Seeks.{Candidate, Least, Sought, Offer, Lowest, Leapt}
 use Rattle.triples.proofs.Order.{upto_trans, same_is}
 use Rattle.triples.proofs.Seeks.{origin}
-use Rattle.triples.proofs.Selectors.{select-matches, select-value, origin_reached}
+use Rattle.triples.proofs.Selectors.{select-matches, select_value, origin_reached}
 use Rattle.layers.specs.Sets.{most_withdrawn}
 use Rattle.layers.specs.Withdrawals.{without, amended, outcome, Withdraws}
 use Rattle.layers.proofs.Leaps.{select_back_value, lowest_term}
@@ -158,7 +158,7 @@ module _ (m : Meaning) (gone : List Triple) (p : Position) (s : Selector) (bound
             triple = t;
             held = found.candidate.held;
             fit = select_back_value s p n o.triple t o.fit o.stands found.candidate.fit one;
-            stands = select-value s p n t one found.candidate.fit;
+            stands = select_value s p n t one found.candidate.fit;
             reached = omega (arith, past.onward, o.reached);
           };
           first = λ k other. l.first k (offer_below k other);

@@ -108,23 +108,23 @@ Fits u = (u.triples ≤ most_in_all) × (u.nodes ≤ most_in_all)
 abbrev Room : Used → ℕ → ℕ → Type 0
 Room u t n = (u.triples + t ≤ most_in_all) × (u.nodes + n ≤ most_in_all)
 
-module _ {A : Type 0} (ok : A → Bool) (triples-of nodes-of : A → ℕ) where
+module _ {A : Type 0} (ok : A → Bool) (triples_of nodes_of : A → ℕ) where
   -- what is used with one element more
   abbrev more : Used → A → Used
-  more u a = record { triples = u.triples + triples-of a; nodes = u.nodes + nodes-of a }
+  more u a = record { triples = u.triples + triples_of a; nodes = u.nodes + nodes_of a }
 
   -- each element lawful and with room for it is all lawful and room for all
   all_of_each : (u : Used) (xs : List A) → Fits u
-      → Each (λ u a. (ok a ≡ true) × Room u (triples-of a) (nodes-of a)) more u xs
-      → (every ok xs ≡ true) × Room u (total triples-of xs) (total nodes-of xs)
+      → Each (λ u a. (ok a ≡ true) × Room u (triples_of a) (nodes_of a)) more u xs
+      → (every ok xs ≡ true) × Room u (total triples_of xs) (total nodes_of xs)
   all_of_each u [] f h = (refl, (omega (arith, f.0), omega (arith, f.1)))
   all_of_each u (x ∷ xs) f h =
       let r = all_of_each (more u x) xs h.0.1 h.1 in
       (and_from _ _ h.0.0 r.0, (omega (arith, r.1.0), omega (arith, r.1.1)))
 
   each_of_all : (u : Used) (xs : List A) → every ok xs ≡ true
-      → Room u (total triples-of xs) (total nodes-of xs)
-      → Each (λ u a. (ok a ≡ true) × Room u (triples-of a) (nodes-of a)) more u xs
+      → Room u (total triples_of xs) (total nodes_of xs)
+      → Each (λ u a. (ok a ≡ true) × Room u (triples_of a) (nodes_of a)) more u xs
   each_of_all u [] h r = tt
   each_of_all u (x ∷ xs) h r =
       let w = and_parts (ok x) (every ok xs) h in (
@@ -242,8 +242,8 @@ groups_limited q h =
     (and_from _ _ (le-leb (total triples_in q) most_in_all (omega (arith, a.1.0)))
     (le-leb (total nodes_in q) most_in_all (omega (arith, a.1.1)))))
 
-limited-groups : (q : List Group) → limited q ≡ true → GroupsOk q
-limited-groups q h =
+limited_groups : (q : List Group) → limited q ≡ true → GroupsOk q
+limited_groups q h =
     let l = query_limits q h in (
       l.few,
       (
@@ -255,7 +255,7 @@ limited-groups q h =
 
 pub alternatives_codec : Codec alternatives bytes_of (λ q. limited q ≡ true)
 alternatives_codec =
-    codec_like GroupsOk (λ q. limited q ≡ true) limited-groups groups_limited
+    codec_like GroupsOk (λ q. limited q ≡ true) limited_groups groups_limited
     (series_codec alternative with_group group_bytes GroupOk (λ _ u. Fits u) (λ n u g _ ok. ok.1)
     (λ _ u good. alternative_codec u good) 1 most_alternatives (omega arith) unused
     (λ _ _. (omega arith, omega arith)))

@@ -84,12 +84,12 @@ number_stops : (at : ℕ) (bs : List ℕ) (d : Decoded) (r : Refusal) (q : ℕ) 
     ≡ refused r q
     → by_number r ≡ true → Stops number at bs r q
 number_stops at bs ends_early r q e t h =
-    let r-is : r ≡ EndsEarly = cc in
-    let false-is : by_number EndsEarly ≡ true = subst (λ s. by_number s ≡ true) r-is h in
-    let z : false ≡ true = false-is in
+    let r_is : r ≡ EndsEarly = cc in
+    let false_is : by_number EndsEarly ≡ true = subst (λ s. by_number s ≡ true) r_is h in
+    let z : false ≡ true = false_is in
     let y : ◌≡◌ {A = ℕ} 0 1 = cc in absurd (omega arith)
 number_stops at bs malformed r q e t h =
-    let q-is : at ≡ q = cc in
+    let q_is : at ≡ q = cc in
     record {
       used = take (span bs) bs;
       rest = drop (span bs) bs;

@@ -141,17 +141,17 @@ module _ {A B C : Type 0} (p : Reader A) (q : A → Reader B) (c : A → B → C
         (next_refused (p at bs) (λ a mid more. one (q a) (c a) mid more) r z t)
 
     -- two parts make a codec where what they make can be taken apart again
-    pub both_codec : (encB : B → List ℕ) (OkB : A → B → Type 0) (second : (a : A) → Ok a
-        → Codec (q a) encB (OkB a))
+    pub both_codec : (enc_b : B → List ℕ) (OkB : A → B → Type 0) (second : (a : A) → Ok a
+        → Codec (q a) enc_b (OkB a))
         (left : C → A) (right : C → B)
         → ((x : C) → c (left x) (right x) ≡ x)
         → ((a : A) (b : B) → OkB a b → (left (c a b) ≡ a) × (right (c a b) ≡ b))
-        → Codec (both p q c) (λ x. enc (left x) ++ encB (right x)) (λ x. Ok (left x) × OkB (left x) (right x))
-    both_codec encB OkB second left right whole apart = record {
+        → Codec (both p q c) (λ x. enc (left x) ++ enc_b (right x)) (λ x. Ok (left x) × OkB (left x) (right x))
+    both_codec enc_b OkB second left right whole apart = record {
       back = λ x at rest h.
-          both_back (left x) (right x) (encB (right x)) at rest h.0
+          both_back (left x) (right x) (enc_b (right x)) at rest h.0
           ((second (left x) h.0).back (right x) (at + length (enc (left x))) rest h.1)
-          ∙ ap (λ y. took y (at + length (enc (left x) ++ encB (right x))) rest) (whole x);
+          ∙ ap (λ y. took y (at + length (enc (left x) ++ enc_b (right x))) rest) (whole x);
       only = λ at bs x after rest t.
           let s = both_took at bs x after rest t in
           let f = first.only at bs s.first s.middle s.between s.first_took in
@@ -160,17 +160,17 @@ module _ {A B C : Type 0} (p : Reader A) (q : A → Reader B) (c : A → B → C
           let parts = apart s.first s.second g.0 in
           let l : left x ≡ s.first = ap left s.made ∙ parts.0 in
           let r : right x ≡ s.second = ap right s.made ∙ parts.1 in
-          let code : enc (left x) ++ encB (right x) ≡ enc s.first ++ encB s.second =
-          ap (λ a. enc a ++ encB (right x)) l ∙ ap (λ b. enc s.first ++ encB b) r in (
+          let code : enc (left x) ++ enc_b (right x) ≡ enc s.first ++ enc_b s.second =
+          ap (λ a. enc a ++ enc_b (right x)) l ∙ ap (λ b. enc s.first ++ enc_b b) r in (
             (
               subst Ok (sym l) f.0,
               subst (λ a. OkB a (right x)) (sym l)
                   (subst (OkB s.first) (sym r) g.0),
             ),
             f.1 ∙ ap (λ y. enc s.first ++ y) g.1
-                ∙ sym (append_assoc (enc s.first) (encB s.second) rest)
+                ∙ sym (append_assoc (enc s.first) (enc_b s.second) rest)
                 ∙ ap (λ y. y ++ rest) (sym code),
-            omega (arith, f.2, g.2, length-append (enc s.first) (encB s.second), ap length code),
+            omega (arith, f.2, g.2, length-append (enc s.first) (enc_b s.second), ap length code),
           );
       stops = λ at bs r z t h.
           both_stops at bs r z t h (λ a mid more ok e. (second a ok).stops mid more r z e h);

@@ -106,8 +106,8 @@ concluded_refused : (m : Read (List Group)) (r : Refusal) (z : ℕ) → conclude
     ≡ true → m ≡ refused r z
 concluded_refused (refused r' at) r z e h = cc
 concluded_refused (took p at (b ∷ bs)) r z e h =
-    let r-is : r ≡ BytesLeft = cc in
-    let f : false ≡ true = subst (λ s. by_number s ≡ true) r-is h in
+    let r_is : r ≡ BytesLeft = cc in
+    let f : false ≡ true = subst (λ s. by_number s ≡ true) r_is h in
     let y : ◌≡◌ {A = ℕ} 0 1 = cc in absurd (omega arith)
 concluded_refused (took p at []) r z e h =
     absurd (none_by_number (subst (λ s. by_number s ≡ true) (shared_number (some shares p) p at r z e) h))

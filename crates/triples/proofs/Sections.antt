@@ -16,10 +16,10 @@ module _ (dir : List DirectoryEntry) (pairs : List Pair) where
       subst₂ (λ x y. before (triple_of (property_of dir i) x) (triple_of (property_of dir i) y) ≡ true)
       (get_or_default xs k no_pair d (omega (arith, l))) (get_or_default xs (k + 1) no_pair d l) (o i k (h, l))
 
-  pub sections-ordered :
+  pub sections_ordered :
       ((i : ℕ) → i < length dir → Ordered (triple_of (property_of dir i)) (section dir pairs i))
       → SectionsOrdered dir pairs
-  sections-ordered each i k both = each i both.0 k no_pair both.1
+  sections_ordered each i k both = each i both.0 k no_pair both.1
 
 pub table_accepted : (top : ℕ) (dir : List DirectoryEntry) (pairs : List Pair)
     → TableOutcome top dir pairs None

@@ -12,7 +12,7 @@ use Rattle.triples.specs.Order.{value_at, number_from}
 use Rattle.triples.specs.Selectors.{select, aim}
 use Rattle.triples.specs.Meaning.{Meaning, Term, Sound, least_term}
 use Rattle.triples.specs.Seeks.{Candidate, Sought, Offer, Lowest, Leapt}
-use Rattle.triples.proofs.Selectors.{aim_reached, aim_low, aim_least, select-matches, select-value}
+use Rattle.triples.proofs.Selectors.{aim_reached, aim_low, aim_least, select-matches, select_value}
 use Rattle.triples.proofs.Selectors.{select_back}
 use Rattle.triples.proofs.Selectors.{origin_reached}
 
@@ -94,7 +94,7 @@ module _ (m : Meaning) (p : Position) (s : Selector) (bound : ℕ) (aimless : ai
       triple = t;
       held = l.candidate.held;
       fit = select_back s p bound n t aimless l.candidate.fit;
-      stands = select-value s p n t one l.candidate.fit;
+      stands = select_value s p n t one l.candidate.fit;
       reached = high;
     };
     first = by;

@@ -46,12 +46,12 @@ select-matches s Subject n t h e = grind (arith, nat_tests)
 select-matches s Property n t h e = grind (arith, nat_tests)
 select-matches s Object n t h e = grind (arith, nat_tests)
 
-pub select-value : (s : Selector) (p : Position) (n : ℕ) (t : Triple) → 1 ≤ n
+pub select_value : (s : Selector) (p : Position) (n : ℕ) (t : Triple) → 1 ≤ n
     → matches (select s p n) t ≡ true
     → value_at p t ≡ n
-select-value s Subject n t k h = grind (arith, nat_tests)
-select-value s Property n t k h = grind (arith, nat_tests)
-select-value s Object n t k h = grind (arith, nat_tests)
+select_value s Subject n t k h = grind (arith, nat_tests)
+select_value s Property n t k h = grind (arith, nat_tests)
+select_value s Object n t k h = grind (arith, nat_tests)
 
 pub select_back : (s : Selector) (p : Position) (bound n : ℕ) (t : Triple) → aim s p bound ≡ None
     → matches (select s p n) t ≡ true → matches s t ≡ true

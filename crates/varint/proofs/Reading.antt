@@ -198,7 +198,7 @@ module _ {bytes : List ℕ} {at last : ℕ} (ends : Ends bytes at last) where
   pub shortest_at : (v k : ℕ) → v ≡ value number → k ≡ last + 1 - at → v ≤ largest → k ≤ 5
       → padded bytes at last ≡ false → ((i : ℕ) → get_or bytes i 0 < 256)
       → decode (drop at bytes) ≡ decoded v k
-  shortest_at v k is-v is-k l h f small =
+  shortest_at v k is_v is_k l h f small =
       let spans = ends.spans
       in let low : value number ≤ largest = omega arith
       in let is = decode_shortest (last - at) (drop at bytes) span_at (omega arith)

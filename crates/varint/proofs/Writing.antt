@@ -22,7 +22,7 @@ module _ {n at : ℕ} {before : List ℕ} {rest i : ℕ} {out : List ℕ} (left 
 
   pub left_more : (b next j : ℕ) → b ≡ 128 + rest % 128 → next ≡ rest / 128 → j ≡ i + 1
       → n ≤ largest → 128 ≤ rest → Left n at before next j (set out i b)
-  left_more b next j is_b is-next is-j h more =
+  left_more b next j is_b is_next is_j h more =
       let low = left.low
       in let e = encode_more rest (omega arith) more
       in let step : sets out i ((128 + rest % 128) ∷ encode (rest / 128)) ≡ sets before at (encode n)
@@ -30,7 +30,7 @@ module _ {n at : ℕ} {before : List ℕ} {rest i : ℕ} {out : List ℕ} (left 
       in let place : j ≡ suc i = omega arith
       in record {
         low = omega arith;
-        ends = omega (arith, ap length e, ap (λ m. length (encode m)) is-next);
+        ends = omega (arith, ap length e, ap (λ m. length (encode m)) is_next);
         bytes = cc;
       }
 

@@ -4,7 +4,7 @@ use Rattle.triples.specs.declared.pair.Pair.{Pair}
 use Rattle.triples.specs.Tables.{Ordered, NotAbove, triple_of}
 use Rattle.triples.specs.Directory.{property_of, section}
 use Rattle.triples.proofs.Lexical.{pairs_ascend, pairs_fall}
-use Rattle.triples.proofs.Sections.{sections-ordered}
+use Rattle.triples.proofs.Sections.{sections_ordered}
 use Rattle.triples.proofs.property_load.fall_in_entry.Goals as goal
 
 pub returns-in-Some : goal.returns-in-Some
@@ -35,5 +35,5 @@ loop-i-preserved c k h =
 pub returns : goal.returns
 returns c =
     let end = c.loop-i-test.false in
-    sections-ordered c.args.directory.now c.args.pairs.now
+    sections_ordered c.args.directory.now c.args.pairs.now
     (λ i h. c.loop-i.invariant i (omega (arith, end, h)))

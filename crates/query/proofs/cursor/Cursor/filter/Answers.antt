@@ -75,8 +75,8 @@ node-requires-in-loop-number c =
     let short = b.short in
     let high = count_high 0 c.node_room.result c.in_ok-count.count c.args.self.now _ _
     (omega (arith, c.node_room.ensures)) c.in_ok-count.ensures.answer in
-    let now-used = ap (λ u. u.nodes) c.loop-number.invariant.1 in
-    omega (arith, high, now-used, c.node_room.ensures)
+    let now_used = ap (λ u. u.nodes) c.loop-number.invariant.1 in
+    omega (arith, high, now_used, c.node_room.ensures)
 
 pub returns : goal.returns
 returns c =

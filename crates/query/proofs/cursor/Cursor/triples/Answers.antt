@@ -74,5 +74,5 @@ triple-requires-in-loop-number c =
     let high = count_high c.args.least c.triple_room.result c.in_ok-count.count
     c.args.self.now _ _
     (omega (arith, c.triple_room.ensures)) c.in_ok-count.ensures.answer in
-    let now-used = ap (λ u. u.triples) c.loop-number.invariant.1 in
-    omega (arith, high, now-used, c.triple_room.ensures)
+    let now_used = ap (λ u. u.triples) c.loop-number.invariant.1 in
+    omega (arith, high, now_used, c.triple_room.ensures)

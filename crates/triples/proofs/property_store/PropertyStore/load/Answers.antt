@@ -14,10 +14,10 @@ invariant_of-result c =
     c.in-None.ensures) in
     let entries = lawful.limited.few_entries in
     let pairs = lawful.limited.few_pairs in
-    let entries-len = c.args.table.directory.ok.0 in
+    let entries_len = c.args.table.directory.ok.0 in
     let pairs_len = c.args.table.pairs.ok.0 in record {
       small = lawful.limited.small;
-      few = (omega (arith, entries, entries-len), omega (arith, pairs, pairs_len));
+      few = (omega (arith, entries, entries_len), omega (arith, pairs, pairs_len));
       good = lawful.whole.good;
       terms = lawful.terms;
       ordered = lawful.ordered;
