@@ -18,3 +18,15 @@ impl Rejection {
         Rejection { refusal, place: 0 }
     }
 }
+
+impl Refusal {
+    /// The refusal at the place that it names.
+    pub fn at(self, place: usize) -> Rejection
+        ensures { (result.refusal ≡ self) × (result.place ≡ place) }
+    {
+        Rejection {
+            refusal: self,
+            place,
+        }
+    }
+}
