@@ -1,19 +1,21 @@
 -- What a reader that looks for the last byte first may conclude: where the number ends, what it is worth,
 -- and whether it is in order. Assumes nothing.
-use Rattle.std.proofs.Common.{◌≡◌, ℕ, zero, suc, ◌+◌, ◌-◌, ◌*◌, ◌/◌, ◌%◌, ◌^◌, ◌<◌, ◌≤◌, true, false, ◌&&◌}
+use Rattle.std.proofs.Common.{◌≡◌, ℕ, zero, suc, ◌+◌, ◌-◌, ◌*◌, ◌/◌, ◌%◌, ◌<◌, ◌≤◌, true, false, ◌&&◌}
 use Rattle.std.proofs.Common.{eqb, ltb, leb, List, [], ◌∷◌, length, get_or, reverse, fold, take, sym, refl, ap, ◌∙◌}
 use Rattle.std.proofs.Common.{subst, ⊎_elim, arith}
 use Rattle.std.proofs.lemmas.Grind.{fold-append}
 use Rattle.std.proofs.lemmas.List.{get_or-take, reverse-append}
 use Rattle.std.proofs.lemmas.Bool.{and_cases, and_parts, cases_Bool, cond-false, eqb-true, eqb-false}
 use Rattle.std.proofs.lemmas.Bool.{leb-true, ltb-true, ltb-false}
+use Rattle.std.proofs.lemmas.Slice.Eq.{bytes_eq-Decides}
+use Rattle.std.specs.Str.{bytes_eq}
 use Rattle.std.specs.List.{AllWithin, HoldsAt}
 use Rattle.varint.specs.Ending.{IsFirst, padded}
 use Rattle.varint.specs.Encode.{encode, groups, largest}
-use Rattle.varint.specs.Decode.{malformed, decoded, one_more, span, value, same, judged, decode}
+use Rattle.varint.specs.Decode.{malformed, decoded, one_more, span, value, judged, decode}
 use Rattle.varint.proofs.Groups.{groups_less, groups_more, encode_each}
 use Rattle.varint.proofs.Laws.{length-encode, span_last, span_more, span-suc, span_each, length-span}
-use Rattle.varint.proofs.Laws.{same_true, judged_yes, decode_some}
+use Rattle.varint.proofs.Laws.{judged_yes, decode_some}
 
 -- span
 
@@ -99,10 +101,10 @@ last_encode (suc n) k h some e =
 
 judged_no : (bs : List ℕ) → (value bs ≤ largest → encode (value bs) ≡ bs → ⊥) → judged bs ≡ malformed
 judged_no bs wrong =
-    let test = leb (value bs) largest && same (encode (value bs)) bs
+    let test = leb (value bs) largest && bytes_eq (encode (value bs)) bs
     in ⊎_elim
-    (λ t. let both = and_parts (leb (value bs) largest) (same (encode (value bs)) bs) t
-    in absurd (wrong (leb-true _ _ both.0) (same_true _ _ both.1)))
+    (λ t. let both = and_parts (leb (value bs) largest) (bytes_eq (encode (value bs)) bs) t
+    in absurd (wrong (leb-true _ _ both.0) ((bytes_eq-Decides _ _).0 both.1)))
     (λ f. cond-false test (decoded (value bs) (length bs)) malformed f)
     (cases_Bool test)
 

@@ -10,10 +10,10 @@ pub const LARGEST: u64 = u32::MAX as u64;
 pub(crate) const BITS: u32 = 7;
 
 /// How many values a group of seven bits has.
-pub(crate) const GROUP: u32 = 128;
+pub(crate) const GROUP: u32 = 1 << BITS;
 
 /// The top bit of a byte, which is set where another byte follows.
-pub(crate) const MORE: u8 = 128;
+pub(crate) const MORE: u8 = 1 << BITS;
 
 /// A number that was read, and how many bytes it takes.
 #[derive(Clone, Copy, Debug, PartialEq, Eq)]

@@ -1,5 +1,5 @@
 -- The bits of a number tell how many groups it has.
-use Rattle.std.proofs.Common.{◌≡◌, max, arith, rules}
+use Rattle.std.proofs.Common.{arith, rules}
 use Rattle.varint.proofs.Groups.{length-encode_bits}
 use Rattle.varint.proofs.write.length_of.Goals as goal
 

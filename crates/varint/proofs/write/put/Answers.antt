@@ -4,9 +4,6 @@ use Rattle.varint.proofs.Writing.{left_all, left_last, left_more, left_none}
 use Rattle.varint.proofs.write.put.Goals as goal
 use Rattle.varint.proofs.write.put.Goals.{then-rest-lt-GROUP, else-rest-lt-GROUP}
 
-pub loop-byte-init : goal.loop-byte-init
-loop-byte-init c = left_none c.args.n c.args.out.now c.requires
-
 pub loop-byte-preserved : goal.loop-byte-preserved
 loop-byte-preserved c =
     let left = c.loop-byte.invariant
