@@ -3,7 +3,8 @@ use Rattle.std.proofs.Common.{◌≡◌, ℕ, ◌<◌, List, [], ◌∷◌, leng
 use Rattle.std.proofs.lemmas.Bool.Decides.{nat_tests}
 use Rattle.std.specs.Char as char
 use Rattle.hex_text.specs.Characters.{digit_value}
-use Rattle.hex_text.specs.Reading.{byte_value, word_value}
+use Rattle.hex_text.specs.Reading.{byte_value}
+use Rattle.hex_text.specs.Words.{word_value}
 
 -- digits
 

@@ -1,6 +1,8 @@
 -- Laws of the text of bytes: each byte's digits are read as the byte. Assumes nothing.
-use Rattle.std.proofs.Common.{◌≡◌, ℕ, suc, ◌+◌, ◌-◌, ◌*◌, ◌/◌, ◌%◌, ◌^◌, ◌<◌, ◌≤◌, true, false, List, [], ◌∷◌, ◌++◌}
-use Rattle.std.proofs.Common.{length, get_or, take, drop, Some, None, Option, Result, sym, refl, ap, ◌∙◌, subst, arith}
+use Rattle.std.proofs.Common.{◌≡◌, ℕ, suc, ◌+◌, ◌-◌, ◌*◌, ◌/◌, ◌%◌, ◌^◌, ◌<◌, ◌≤◌, true, false, List, [], ◌∷◌}
+use Rattle.std.proofs.Common.{◌++◌}
+use Rattle.std.proofs.Common.{length, get_or, take, drop, Some, None, Option, Result, sym, refl, ap, ◌∙◌}
+use Rattle.std.proofs.Common.{subst, arith}
 use Rattle.std.proofs.lemmas.Fmt.{hex_byte}
 use Rattle.std.proofs.lemmas.List.{take_all, take_more}
 use Rattle.std.proofs.lemmas.Slice.{first_rest}
@@ -85,9 +87,11 @@ pub put_then : {W : Type 0} (took : W → List ℕ → W → Type 0) {f g h : Fo
     → xs ++ ys ≡ cs → HasWritten took f xs g → (IsPlainFormatter g → HasWritten took g ys h)
     → HasWritten took f cs h
 put_then took {f} {g} {h} {xs} {ys} {cs} e first second =
-    has_written_of_eq took f (xs ++ ys) cs h e (has_written_append took f xs g ys h first (second first.plain))
+    has_written_of_eq took f (xs ++ ys) cs h e
+    (has_written_append took f xs g ys h first (second first.plain))
 
 -- what shows as a known text is written as that text
 pub shown_as : {W : Type 0} (took : W → List ℕ → W → Type 0) {f g : Formatter W}
-    (r : Result (Unit {0}) Error) {o : Option (List ℕ)} {bs : List ℕ} → o ≡ Some bs → DisplaysOnOk took f r o g → WritesOnOk took f r bs g
+    (r : Result (Unit {0}) Error) {o : Option (List ℕ)} {bs : List ℕ} → o ≡ Some bs
+    → DisplaysOnOk took f r o g → WritesOnOk took f r bs g
 shown_as took {f} {g} r e shows = subst (λ (m : Option (List ℕ)). DisplaysOnOk took f r m g) e shows

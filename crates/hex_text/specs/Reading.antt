@@ -1,10 +1,7 @@
 -- What a text stands for, if it is bytes. Assumes nothing.
 --     front text        the byte whose digits begin the text
 --     read_text text    all its bytes, or none where it is something else
---     words text        the parts of the text round its spaces
-use Rattle.std.specs.Prelude.{ℕ, ◌+◌, ◌*◌, Bool, true, cond, ◌||◌, List, [], ◌∷◌, length, is_some, Some, None}
-use Rattle.std.specs.Prelude.{Option, ◌==◌}
-use Rattle.std.specs.List.{slice_split}
+use Rattle.std.specs.Prelude.{ℕ, ◌+◌, ◌*◌, Bool, true, cond, List, [], ◌∷◌, Some, None, Option, ◌==◌}
 use Rattle.hex_text.specs.Characters.{digit_value, space}
 
 -- the text that comes behind two digits is empty or begins with a space
@@ -36,16 +33,3 @@ read_text [] = Some []
 read_text (c ∷ []) = cond (c == space) (Some []) None
 read_text (c ∷ d ∷ rest) =
     cond (c == space) (read_text (d ∷ rest)) (led_by (front (c ∷ d ∷ rest)) (read_text rest))
-
--- the words of a text: what stands before, between and behind its spaces
-abbrev pub words : List ℕ → List (List ℕ)
-words text = slice_split (λ c. c == space) text
-
--- the byte that a word of two digits makes; none for any other word
-abbrev pub word_value : List ℕ → Option ℕ
-word_value (high ∷ low ∷ []) = byte_value (digit_value high) (digit_value low)
-word_value _ = None
-
--- the word is empty, or two digits that make a byte
-abbrev pub is_word : List ℕ → Bool
-is_word word = length word == 0 || is_some (word_value word)

@@ -2,7 +2,8 @@
 ghost use Rattle.std.specs.Prelude.{◌≡◌, filter_map, IfOk};
 ghost use Rattle.std.specs.List.{list_all};
 ghost use Rattle.hex_text.specs.Calls.{Parsed};
-ghost use Rattle.hex_text.specs.Reading.{is_word, read_text, word_value, words};
+ghost use Rattle.hex_text.specs.Reading.{read_text};
+ghost use Rattle.hex_text.specs.Words.{is_word, word_value, words};
 ghost use Rattle.hex_text.specs.declared.parse.ParseError.TheVariants.{Memory};
 
 use std::alloc::{AllocError, Global};

@@ -1,5 +1,6 @@
 -- Laws of groups: how one group is split off, and what holds of every number by its groups. Assumes nothing.
-use Rattle.std.proofs.Common.{◌≡◌, ℕ, zero, suc, ◌+◌, ◌*◌, ◌/◌, ◌%◌, ◌^◌, ◌<◌, ◌≤◌, max, ltb, List, [], ◌∷◌, length}
+use Rattle.std.proofs.Common.{◌≡◌, ℕ, zero, suc, ◌+◌, ◌*◌, ◌/◌, ◌%◌, ◌^◌, ◌<◌, ◌≤◌, max, ltb, List, [], ◌∷◌}
+use Rattle.std.proofs.Common.{length}
 use Rattle.std.proofs.Common.{sym, refl, ap, ◌∙◌, ⊎_elim, pow-suc, arith}
 use native.Mathlib.Nat.{pow-le-pow_right}
 use Rattle.std.proofs.lemmas.Nat.{pow-add}
@@ -91,7 +92,8 @@ pub length-encode_bits : (n m r : ℕ) → m ≡ max n 1 → n ≤ largest → r
 unfolding encode
 length-encode_bits n m r e h few low high =
     let j = r / 7
-    in let below : 2 ^ (7 * j) ≤ 2 ^ r = pow-le-pow_right {n = 2} (omega arith) {i = 7 * j} {j = r} (omega arith)
+    in let below : 2 ^ (7 * j) ≤ 2 ^ r =
+    pow-le-pow_right {n = 2} (omega arith) {i = 7 * j} {j = r} (omega arith)
     in let above : 2 ^ suc r ≤ 2 ^ (7 * suc j) =
     pow-le-pow_right {n = 2} (omega arith) {i = suc r} {j = 7 * suc j} (omega arith)
     in let is = length-groups_at 4 n j (omega arith)

@@ -1,5 +1,6 @@
 -- What a writer that puts one group after the other keeps. Assumes nothing.
-use Rattle.std.proofs.Common.{◌≡◌, ℕ, ◌+◌, ◌/◌, ◌%◌, ◌<◌, ◌≤◌, List, [], ◌∷◌, ◌++◌, length, take, set, sym, refl}
+use Rattle.std.proofs.Common.{◌≡◌, ℕ, ◌+◌, ◌/◌, ◌%◌, ◌<◌, ◌≤◌, List, [], ◌∷◌, ◌++◌, length, take, set, sym}
+use Rattle.std.proofs.Common.{refl}
 use Rattle.std.proofs.Common.{ap, ◌∙◌, append_assoc, length-append, length-set, arith}
 use Rattle.std.proofs.lemmas.Grind.{take-set_at}
 use Rattle.std.proofs.lemmas.List.{length-take-le, take_all}
@@ -27,7 +28,8 @@ module _ {n rest i : ℕ} {out : List ℕ} (left : Left n rest i out) where
   next_bytes : (b : ℕ) → i < length out → take (i + 1) (set out i b) ≡ take i out ++ b ∷ []
   next_bytes b h = take-set_at out i (i + 1) b refl h
 
-  pub left_last : (b next : ℕ) → i < length out → rest < 128 → b ≡ rest → next ≤ rest → Left n next (i + 1) (set out i b)
+  pub left_last : (b next : ℕ) → i < length out → rest < 128 → b ≡ rest → next ≤ rest
+      → Left n next (i + 1) (set out i b)
   left_last b next h less is_b is_next =
       let whole = left.some h
       in let one = encode_less rest less
@@ -46,7 +48,8 @@ module _ {n rest i : ℕ} {out : List ℕ} (left : Left n rest i out) where
             ∙ ap (λ bs. take i out ++ bs) (sym one) ∙ whole;
       }
 
-  pub left_more : (b next : ℕ) → n ≤ largest → i < length out → 128 ≤ rest → b ≡ 128 + rest % 128 → next ≡ rest / 128
+  pub left_more : (b next : ℕ) → n ≤ largest → i < length out → 128 ≤ rest
+      → b ≡ 128 + rest % 128 → next ≡ rest / 128
       → Left n next (i + 1) (set out i b)
   left_more b next small h more is_b is_next =
       let whole = left.some h

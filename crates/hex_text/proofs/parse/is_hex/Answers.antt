@@ -3,7 +3,7 @@ use Rattle.std.proofs.Common.{◌==◌, rules, tests}
 use Rattle.std.proofs.lemmas.Iterator.Search.{all_from_yields_List}
 use Rattle.std.proofs.lemmas.Iterator.Splits.{YieldsList-from_slice_split}
 use Rattle.hex_text.specs.Characters.{space}
-use Rattle.hex_text.specs.Reading.{is_word}
+use Rattle.hex_text.specs.Words.{is_word}
 use Rattle.hex_text.proofs.parse.is_hex.Goals as goal
 
 pub returns : goal.returns

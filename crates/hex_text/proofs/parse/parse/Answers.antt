@@ -12,7 +12,8 @@ returns-then-not-is_hex c =
 pub returns-in_err-bytes_of : goal.returns-in_err-bytes_of
 returns-in_err-bytes_of c =
     let p = err_from_is_err_and c.from_residual.result c.from_residual.ensures.1
-    in rw (p.1, p.2) (ap is_some (read_words c.args.text.now ∙ cond-true _ _ None (sym c.is_hex.ensures ∙ c.if-not-is_hex.false)))
+    in let is = sym c.is_hex.ensures ∙ c.if-not-is_hex.false
+    in rw (p.1, p.2) (ap is_some (read_words c.args.text.now ∙ cond-true _ _ None is))
 
 pub returns : goal.returns
 returns c =

@@ -1,5 +1,6 @@
 -- Each answer is what the bytes from the place on say.
-use Rattle.std.proofs.Common.{◌≡◌, ℕ, ◌+◌, ◌<◌, List, [], length, drop, Some, None, Option, Bor, unwrap_or, refl, sym, ap}
+use Rattle.std.proofs.Common.{◌≡◌, ℕ, ◌+◌, ◌<◌, List, [], length, drop, Some, None, Option, Bor, unwrap_or}
+use Rattle.std.proofs.Common.{refl, sym, ap}
 use Rattle.std.proofs.Common.{◌∙◌, ⊎_elim, length-drop, arith}
 use Rattle.std.proofs.lemmas.Bool.{cases_lt}
 use Rattle.std.proofs.lemmas.List.{drop_all, get_or-drop, take_all}
@@ -10,7 +11,8 @@ use Rattle.varint.specs.Encode.{largest}
 use Rattle.varint.proofs.Laws.{decode_none}
 use Rattle.varint.proofs.Reading.{large_first, long_first, padded_first, shortest_first}
 use Rattle.varint.proofs.read.read.Goals as goal
-use Rattle.varint.proofs.read.read.Goals.{then-number-gt-MOST_BYTES-via-then-number-gt-MOST_BYTES, then-number-gt-MOST_BYTES-via-else-number-gt-MOST_BYTES+then-is_padded}
+use Rattle.varint.proofs.read.read.Goals.{then-number-gt-MOST_BYTES-via-then-number-gt-MOST_BYTES}
+use Rattle.varint.proofs.read.read.Goals.{then-number-gt-MOST_BYTES-via-else-number-gt-MOST_BYTES+then-is_padded}
 
 -- what is got from a place on, or else nothing, is what stands there
 rest_is : (bytes : List ℕ) (at : ℕ) (got : Option (Bor (List ℕ))) (nothing rest : Bor (List ℕ))
@@ -29,13 +31,13 @@ answer_from bytes rest d e h = ap answer (sym h ∙ ap decode e)
 
 pub returns-in_default : goal.returns-in_default
 returns-in_default c =
-    let rest = rest_is c.args.bytes.now c.args.at c.get.result _ c.unwrap_or-rest.result c.get.ensures.lookup refl
+    let rest = rest_is c.args.bytes.now c.args.at _ _ c.unwrap_or-rest.result c.get.ensures.lookup refl
     c.unwrap_or-rest.ensures
     in answer_from _ _ _ rest (decode_none _ c.in_default.ensures)
 
 pub returns-then-number-gt-MOST_BYTES : goal.returns-then-number-gt-MOST_BYTES
 returns-then-number-gt-MOST_BYTES c =
-    let rest = rest_is c.args.bytes.now c.args.at c.get.result _ c.unwrap_or-rest.result c.get.ensures.lookup refl
+    let rest = rest_is c.args.bytes.now c.args.at _ _ c.unwrap_or-rest.result c.get.ensures.lookup refl
     c.unwrap_or-rest.ensures
     in let first = c.in-Some.ensures
     in answer_from _ _ _ rest
@@ -47,7 +49,7 @@ returns-then-number-gt-MOST_BYTES c =
 
 pub returns-in_default-try_from : goal.returns-in_default-try_from
 returns-in_default-try_from c =
-    let rest = rest_is c.args.bytes.now c.args.at c.get.result _ c.unwrap_or-rest.result c.get.ensures.lookup refl
+    let rest = rest_is c.args.bytes.now c.args.at _ _ c.unwrap_or-rest.result c.get.ensures.lookup refl
     c.unwrap_or-rest.ensures
     in let large : largest < c.value_of.result = ⊎_elim (λ less. absurd (c.in_default-try_from.ensures less))
     (λ more. omega arith) (cases_lt c.value_of.result (largest + 1))
@@ -55,7 +57,7 @@ returns-in_default-try_from c =
 
 pub returns : goal.returns
 returns c =
-    let rest = rest_is c.args.bytes.now c.args.at c.get.result _ c.unwrap_or-rest.result c.get.ensures.lookup refl
+    let rest = rest_is c.args.bytes.now c.args.at _ _ c.unwrap_or-rest.result c.get.ensures.lookup refl
     c.unwrap_or-rest.ensures
     in let number = c.in-Some.number.now
     in let is = c.in-Ok.ensures.1 ∙ c.value_of.ensures

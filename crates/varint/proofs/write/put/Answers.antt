@@ -1,6 +1,6 @@
 -- Each turn writes a byte; the last one leaves no rest.
 use Rattle.std.proofs.Common.{arith}
-use Rattle.varint.proofs.Writing.{left_all, left_last, left_more, left_none}
+use Rattle.varint.proofs.Writing.{left_all, left_last, left_more}
 use Rattle.varint.proofs.write.put.Goals as goal
 use Rattle.varint.proofs.write.put.Goals.{then-rest-lt-GROUP, else-rest-lt-GROUP}
 
