@@ -15,19 +15,12 @@ pub record Left (n rest i : ℕ) (out : List ℕ) : Type 0 where
   pub some : i < length out → take i out ++ encode rest ≡ encode n
   pub all : length out ≤ i → take i out ≡ encode n
 
-pub left_none : (n : ℕ) (out : List ℕ) → length out ≡ length (encode n) → Left n n 0 out
-left_none n out room = record {
-  low = omega arith;
-  room = room;
-  some = λ h. refl;
-  all = λ h. absurd (omega (arith, length-encode n));
-}
-
 module _ {n rest i : ℕ} {out : List ℕ} (left : Left n rest i out) where
   -- the bytes up to and with the one at i
   next_bytes : (b : ℕ) → i < length out → take (i + 1) (set out i b) ≡ take i out ++ b ∷ []
   next_bytes b h = take-set_at out i (i + 1) b refl h
 
+  -- the last byte is written, and no rest is left
   pub left_last : (b next : ℕ) → i < length out → rest < 128 → b ≡ rest → next ≤ rest
       → Left n next (i + 1) (set out i b)
   left_last b next h less is_b is_next =
@@ -48,6 +41,7 @@ module _ {n rest i : ℕ} {out : List ℕ} (left : Left n rest i out) where
             ∙ ap (λ bs. take i out ++ bs) (sym one) ∙ whole;
       }
 
+  -- a byte with more behind it is written
   pub left_more : (b next : ℕ) → n ≤ largest → i < length out → 128 ≤ rest
       → b ≡ 128 + rest % 128 → next ≡ rest / 128
       → Left n next (i + 1) (set out i b)
@@ -73,5 +67,6 @@ module _ {n rest i : ℕ} {out : List ℕ} (left : Left n rest i out) where
         all = λ end. absurd (omega (arith, left.room, length-set out i b));
       }
 
+  -- where out ends, all is written
   pub left_all : length out ≤ i → out ≡ encode n
   left_all h = sym (take_all i out h) ∙ left.all h

@@ -1,7 +1,6 @@
 -- Each byte puts one group in front; before the last byte there are at most four, so that nothing wraps.
 use Rattle.std.proofs.Common.{◌≡◌, ℕ, suc, ◌+◌, ◌*◌, ◌%◌, ◌^◌, ◌<◌, List, [], ◌∷◌, ◌++◌, length, Option, Some}
-use Rattle.std.proofs.Common.{sym, subst}
-use Rattle.std.proofs.Common.{◌∙◌, length-append, pow-suc, arith, rules}
+use Rattle.std.proofs.Common.{sym, subst, ◌∙◌, length-append, pow-suc, arith, rules}
 use native.Mathlib.Nat.{pow-le-pow_right}
 use Rattle.std.proofs.lemmas.Fn.{serves_by}
 use Rattle.std.proofs.lemmas.List.{length-reverse}
@@ -23,12 +22,14 @@ yielded_lt steps v (z ∷ ys) [] s t u x all came next = omega arith
 yielded_lt steps v (z ∷ ys) (y ∷ xs) s t u x all came next =
     omega (arith, yielded_lt steps v ys xs came.0 t u x (all.1 y came.0 came.1).1 came.2 next)
 
+-- the same, where a chain's list is known
 yielded_before : {S A B : Type 0} {steps : S → Option A → S → Type 0} {v : A → B} {s : S} {ys : List B}
     → YieldsList steps v s ys → (xs : List A) (t u : S) (x : A) → Yields steps s xs t → steps t (Some x) u
     → length xs < length ys
 yielded_before {steps = steps} {v} {s} {ys} all xs t u x came next =
     yielded_lt steps v ys xs s t u x all.runs came next
 
+-- a group in front of so many makes a number of one group more
 step_lt : {A : Type 0} (xs : List A) (x : A) (n m b : ℕ) → n < 128 ^ length xs → m ≡ n * 128 + b % 128
     → m < 128 ^ length (xs ++ x ∷ [])
 step_lt xs x n m b h e =
