@@ -20,7 +20,7 @@ returns-clause-writes g c plain ok =
     let put = g.W.Write.write_str_gives
     in let shown = shown_byte _ c.in_radix.result c.laid_out.result (omega arith)
     c.in_radix.ensures c.laid_out.ensures
-    in put_then put (text_of_first c.args.self.now.bytes.now (omega arith))
+    in put_then put {g = c.write.new.self} (text_of_first c.args.self.now.bytes.now (omega arith))
     (shown_as put c.write.result shown c.write.ensures.writes plain (ap is_ok c.in_ok-write.was))
     (λ next. has_written_of_eq put _ _ _ _ (spaced_all _ c.loop-byte.byte-index (omega arith))
     (c.loop-byte.invariant next))
