@@ -1,2 +1,1 @@
 -- Read this.
-mod Records  -- the first record that is not valid, and a list without one

@@ -1,5 +1,6 @@
 -- Which records spell an entry, and the first of a list that does not. Assumes nothing.
-use Rattle.std.specs.Prelude.{ℕ, ◌+◌, Bool, cond, not, List, [], ◌∷◌, ℤ, pos, is_some, Some, None, Option}
+use Rattle.std.specs.Prelude.{ℕ, Bool, not, List, ℤ, pos, is_some, Some, None, Option, position}
+use Rattle.std.specs.List.{list_all}
 use Rattle.std.specs.Option.{unwrap_or}
 use Rattle.std.specs.Bool.{then_some}
 use Rattle.catalogue.specs.declared.kind.Kind.{Kind}
@@ -21,7 +22,7 @@ entry_from None _ = None
 entry_from (Some k) value = if_proper (record { kind = k; value = value })
 
 -- the entry that the record spells; none where no kind has its number, or the entry is not proper
-abbrev entry_of : Record → Option Entry
+abbrev pub entry_of : Record → Option Entry
 entry_of r = entry_from (kind_from r.kind) r.value
 
 -- the entry that the record spells; unlisted where it spells none
@@ -36,15 +37,10 @@ no_record = record { kind = 0; value = pos 0 }
 abbrev pub valid : Record → Bool
 valid r = is_some (entry_of r)
 
--- the place of the first record that is not valid, where the list begins at place
-abbrev pub invalid_from : ℕ → List Record → Option ℕ
-invalid_from place [] = None
-invalid_from place (r ∷ rs) = cond (valid r) (invalid_from (place + 1) rs) (Some place)
-
 -- the place of the first record that is not valid; none where all are
 abbrev pub first_invalid : List Record → Option ℕ
-first_invalid records = invalid_from 0 records
+first_invalid records = position (λ r. not (valid r)) records
 
 -- every record is valid
 abbrev pub all_valid : List Record → Bool
-all_valid records = not (is_some (first_invalid records))
+all_valid records = list_all valid records

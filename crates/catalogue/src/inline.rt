@@ -25,7 +25,7 @@ impl Catalogue for Inline {
     ghost proper = { λ _ n. inlined_proper n };
 
     fn lookup(&mut self, number: u32) -> (Kind, i32) {
-        if number >= FIRST_INTEGER && number <= LAST_INTEGER {
+        if (FIRST_INTEGER..=LAST_INTEGER).contains(&number) {
             (Kind::Integer, number as i32 - ZERO_AT)
         } else {
             (Kind::Name, 0)

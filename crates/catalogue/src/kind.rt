@@ -1,9 +1,12 @@
 //! Kinds of terms and their published numbers.
-ghost use Rattle.std.specs.Prelude.{◌≡◌};
-ghost use Rattle.catalogue.specs.Kinds.{kind_from, Numbered, published};
+ghost use Rattle.std.specs.Prelude.{◌≡◌, Some};
+ghost use Rattle.catalogue.specs.Kinds.{kind_from, name_of, Numbered, published};
+
+use std::fmt;
+use std::fmt::{Formatter, Write};
 
 /// The kind of a term. The number behind each case is the published one.
-#[derive(Clone, Copy)]
+#[derive(Clone, Copy, Debug, PartialEq, Eq)]
 pub enum Kind {
     /// A name.
     Name = 1,
@@ -26,14 +29,20 @@ impl Kind {
         ensures answer { result ≡ kind_from number }
         ensures exact { Numbered number result }
     {
-        if number == Kind::Name.number() {
-            Some(Kind::Name)
-        } else if number == Kind::Text.number() {
-            Some(Kind::Text)
-        } else if number == Kind::Integer.number() {
-            Some(Kind::Integer)
-        } else {
-            None
-        }
+        [Kind::Name, Kind::Text, Kind::Integer]
+            .into_iter()
+            .find(|kind| kind.number() == number)
+    }
+}
+
+impl fmt::Display for Kind {
+    ghost output = { λ kind. Some (name_of kind) };
+
+    fn fmt<W: Write>(&self, f: &mut Formatter<W>) -> fmt::Result {
+        f.write_str(match self {
+            Kind::Name => "name",
+            Kind::Text => "text",
+            Kind::Integer => "integer",
+        })
     }
 }

@@ -1,6 +1,7 @@
 //! Lists of records taken in, and given out again.
 ghost use Rattle.std.specs.Prelude.{◌≡◌, vec_len};
 ghost use Rattle.catalogue.specs.Calls.{Loaded};
+ghost use Rattle.catalogue.specs.Listing.{listed_outcome};
 ghost use Rattle.catalogue.specs.Records.{first_invalid};
 
 use crate::listed::{Listed, MOST_RECORDS};
@@ -16,18 +17,9 @@ impl Listed {
     pub fn load(records: Vec<Record>) -> Result<Listed, Declined<Vec<Record>>>
         ensures { Loaded records result }
     {
-        if records.len() > MOST_RECORDS {
-            return Err(Declined {
-                rejection: Rejection::unplaced(Refusal::OverLimit),
-                given: records,
-            });
-        }
-        match first_invalid(records.as_slice()) {
-            Some(place) => Err(Declined {
-                rejection: Rejection {
-                    refusal: Refusal::RecordInvalid,
-                    place,
-                },
+        match refused(records.as_slice()) {
+            Some(rejection) => Err(Declined {
+                rejection,
                 given: records,
             }),
             None => Ok(Listed { records }),
@@ -50,14 +42,19 @@ impl Listed {
     }
 }
 
+/// Why the records are refused; none where they are taken.
+fn refused(records: &[Record]) -> Option<Rejection>
+    ensures { result ≡ listed_outcome records.now }
+{
+    if records.len() > MOST_RECORDS {
+        return Some(Rejection::unplaced(Refusal::OverLimit));
+    }
+    first_invalid(records).map(|place| Refusal::RecordInvalid.at(place))
+}
+
 /// The place of the first record that is not valid; none where all are.
 fn first_invalid(records: &[Record]) -> Option<usize>
     ensures { result ≡ first_invalid records.now }
 {
-    for (i, record) in records.iter().enumerate() {
-        if !record.is_valid() {
-            return Some(i);
-        }
-    }
-    None
+    records.iter().position(|record| record.entry().is_none())
 }

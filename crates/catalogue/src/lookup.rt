@@ -12,10 +12,10 @@ impl Catalogue for Listed {
     ghost proper = { λ c n. listed_proper c.records.items n };
 
     fn lookup(&mut self, number: u32) -> (Kind, i32) {
-        if number >= 1 && number as usize <= self.records.len() {
-            self.records[number as usize - 1].entry()
-        } else {
-            (Kind::Name, 0)
-        }
+        number
+            .checked_sub(1)
+            .and_then(|place| self.records.get(place as usize))
+            .and_then(|record| record.entry())
+            .unwrap_or((Kind::Name, 0))
     }
 }

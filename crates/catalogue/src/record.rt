@@ -1,12 +1,13 @@
 //! Records: entries as they are handed over in a list.
-ghost use Rattle.std.specs.Prelude.{◌≡◌, true};
+ghost use Rattle.std.specs.Prelude.{◌≡◌};
+ghost use Rattle.std.specs.Option.{option_map};
 ghost use Rattle.catalogue.specs.Entries.{told};
-ghost use Rattle.catalogue.specs.Records.{spelled, valid};
+ghost use Rattle.catalogue.specs.Records.{entry_of};
 
 use crate::kind::Kind;
 
 /// The number of a kind, and a value.
-#[derive(Clone, Copy)]
+#[derive(Clone, Copy, Debug, PartialEq, Eq)]
 pub struct Record {
     /// The published number of a kind, where the record is valid.
     pub kind: u32,
@@ -15,25 +16,12 @@ pub struct Record {
 }
 
 impl Record {
-    /// The kind is 1 to 3, and the value is 0 unless it is an integer's.
-    pub(crate) fn is_valid(self) -> bool
-        ensures { result ≡ valid self }
+    /// The entry that the record spells; none where its kind is not 1 to 3, or it is no integer and has a
+    /// value.
+    pub(crate) fn entry(self) -> Option<(Kind, i32)>
+        ensures { result ≡ option_map told (entry_of self) }
     {
-        match Kind::from_number(self.kind) {
-            Some(Kind::Integer) => true,
-            Some(_) => self.value == 0,
-            None => false,
-        }
-    }
-
-    /// The entry that a valid record spells.
-    pub(crate) fn entry(self) -> (Kind, i32)
-        requires { valid self ≡ true }
-        ensures { result ≡ told (spelled self) }
-    {
-        match Kind::from_number(self.kind) {
-            Some(kind) => (kind, self.value),
-            None => unreachable(),
-        }
+        let kind = Kind::from_number(self.kind)?;
+        (kind == Kind::Integer || self.value == 0).then_some((kind, self.value))
     }
 }

@@ -5,72 +5,62 @@ use refusal::rejection::Rejection;
 use std::alloc::{AllocError, Global};
 use std::test::Fail;
 
-/// Lists of kind and value, each with the number of its refusal, 0 where it is taken, and the place.
-const LISTS: [(&[(u32, i32)], u32, usize); 13] = [
+/// Lists of kind and value, each with the number of its refusal and the place, or none where it is taken.
+const LISTS: [(&[(u32, i32)], Option<(u32, usize)>); 13] = [
     // no record at all
-    (&[], 0, 0),
+    (&[], None),
     // each kind
-    (&[(1, 0), (2, 0), (3, 0)], 0, 0),
+    (&[(1, 0), (2, 0), (3, 0)], None),
     // the least and the largest integer
-    (&[(3, -2_147_483_648), (3, 2_147_483_647)], 0, 0),
+    (&[(3, -2_147_483_648), (3, 2_147_483_647)], None),
     // kinds next to the published ones, and far from them
-    (&[(0, 0)], 5, 0),
-    (&[(3, 7), (4, 0)], 5, 1),
-    (&[(4_294_967_295, 0)], 5, 0),
+    (&[(0, 0)], Some((5, 0))),
+    (&[(3, 7), (4, 0)], Some((5, 1))),
+    (&[(4_294_967_295, 0)], Some((5, 0))),
     // names and texts with a value
-    (&[(1, 1)], 5, 0),
-    (&[(1, -1)], 5, 0),
-    (&[(2, 0), (2, 1)], 5, 1),
-    (&[(2, -1)], 5, 0),
-    (&[(1, 0), (1, -2_147_483_648)], 5, 1),
+    (&[(1, 1)], Some((5, 0))),
+    (&[(1, -1)], Some((5, 0))),
+    (&[(2, 0), (2, 1)], Some((5, 1))),
+    (&[(2, -1)], Some((5, 0))),
+    (&[(1, 0), (1, -2_147_483_648)], Some((5, 1))),
     // the first of two bad records, in both orders
-    (&[(1, 0), (4, 0), (2, 5)], 5, 1),
-    (&[(1, 0), (2, 5), (4, 0)], 5, 1),
+    (&[(1, 0), (4, 0), (2, 5)], Some((5, 1))),
+    (&[(1, 0), (2, 5), (4, 0)], Some((5, 1))),
 ];
 
 /// The list of these kinds and values.
 pub(crate) fn list(heap: Global, pairs: &[(u32, i32)]) -> Result<Vec<Record>, AllocError> {
-    let mut records = Vec::new(heap);
-    for (kind, value) in pairs {
-        records.push(Record {
+    pairs
+        .iter()
+        .map(|(kind, value)| Record {
             kind: *kind,
             value: *value,
-        })?;
-    }
-    Ok(records)
+        })
+        .collect(heap)
 }
 
-/// The records have these kinds and values.
-fn holds(records: &[Record], pairs: &[(u32, i32)]) -> bool {
-    if records.len() != pairs.len() {
-        return false;
-    }
-    for (i, record) in records.iter().enumerate() {
-        if record.kind != pairs[i].0 || record.value != pairs[i].1 {
-            return false;
-        }
-    }
-    true
+/// The catalogue of these records.
+pub(crate) fn taken(records: Vec<Record>) -> Result<Listed, Fail> {
+    Listed::load(records).map_err(|_| Fail::new("refused"))
 }
 
-/// The refusal has this number and this place.
-fn says(rejection: Rejection, number: u32, place: usize) -> bool {
-    rejection.refusal.number() == number && rejection.place == place
+/// The number of the refusal, and the place.
+fn said(rejection: Rejection) -> (u32, usize) {
+    (rejection.refusal.number(), rejection.place)
 }
 
 #[test]
 fn lists_are_taken_or_refused_as_in_the_table(rt: HostRuntime) -> Result<(), Fail> {
-    for (pairs, number, place) in LISTS {
-        match Listed::load(list(rt.alloc(), pairs)?) {
+    for (pairs, refused) in LISTS {
+        let (records, outcome) = match Listed::load(list(rt.alloc(), pairs)?) {
             Ok(listed) => {
-                assert!(rt; number == 0 && listed.len() == pairs.len());
-                assert!(rt; holds(listed.into_records().as_slice(), pairs), "taken");
+                assert_eq!(rt; listed.len(), pairs.len());
+                (listed.into_records(), None)
             }
-            Err(declined) => {
-                assert!(rt; says(declined.rejection, number, place));
-                assert!(rt; holds(declined.given.as_slice(), pairs), "given back");
-            }
-        }
+            Err(declined) => (declined.given, Some(said(declined.rejection))),
+        };
+        assert_eq!(rt; outcome, refused);
+        assert_eq!(rt; records.as_slice(), list(rt.alloc(), pairs)?.as_slice());
     }
     Ok(())
 }
@@ -78,13 +68,9 @@ fn lists_are_taken_or_refused_as_in_the_table(rt: HostRuntime) -> Result<(), Fai
 #[test]
 fn a_million_records_are_taken(rt: HostRuntime) -> Result<(), Fail> {
     let name = Record { kind: 1, value: 0 };
-    match Listed::load(vec![in rt.alloc(); name; 1_000_000]?) {
-        Ok(listed) => {
-            assert!(rt; listed.len() == 1_000_000);
-            Ok(())
-        },
-        Err(_) => Err(Fail::new("refused")),
-    }
+    let listed = taken(vec![in rt.alloc(); name; 1_000_000]?)?;
+    assert_eq!(rt; listed.len(), 1_000_000);
+    Ok(())
 }
 
 #[test]
@@ -93,8 +79,8 @@ fn a_million_and_one_are_refused_before_a_bad_record_is(rt: HostRuntime) -> Resu
     match Listed::load(vec![in rt.alloc(); bad; 1_000_001]?) {
         Ok(_) => Err(Fail::new("taken")),
         Err(declined) => {
-            assert!(rt; says(declined.rejection, 1, 0));
-            assert!(rt; declined.given.len() == 1_000_001);
+            assert_eq!(rt; said(declined.rejection), (1, 0));
+            assert_eq!(rt; declined.given.len(), 1_000_001);
             Ok(())
         }
     }

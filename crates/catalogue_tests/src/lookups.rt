@@ -1,71 +1,58 @@
 //! What a number is, in a list and inline.
-use crate::loading::list;
+use crate::loading::{list, taken};
 use catalogue::catalogue::Catalogue;
 use catalogue::inline::Inline;
-use catalogue::listed::Listed;
+use catalogue::kind::Kind;
 use std::test::Fail;
 
 /// A list of four records.
 const RECORDS: [(u32, i32); 4] = [(2, 0), (3, -2_147_483_648), (3, 2_147_483_647), (3, -1)];
 
 /// Numbers with their kind and value in that list.
-const IN_LIST: [(u32, u32, i32); 8] = [
-    (0, 1, 0),
-    (1, 2, 0),
-    (2, 3, -2_147_483_648),
-    (3, 3, 2_147_483_647),
-    (4, 3, -1),
-    (5, 1, 0),
-    (1_000_001, 1, 0),
-    (4_294_967_295, 1, 0),
+const IN_LIST: [(u32, Kind, i32); 8] = [
+    (0, Kind::Name, 0),
+    (1, Kind::Text, 0),
+    (2, Kind::Integer, -2_147_483_648),
+    (3, Kind::Integer, 2_147_483_647),
+    (4, Kind::Integer, -1),
+    (5, Kind::Name, 0),
+    (1_000_001, Kind::Name, 0),
+    (4_294_967_295, Kind::Name, 0),
 ];
 
 /// Numbers with their kind and value, computed.
-const IN_LINE: [(u32, u32, i32); 9] = [
-    (0, 1, 0),
-    (1, 1, 0),
-    (500_000, 1, 0),
-    (500_001, 3, -250_000),
-    (750_000, 3, -1),
-    (750_001, 3, 0),
-    (1_000_000, 3, 249_999),
-    (1_000_001, 1, 0),
-    (4_294_967_295, 1, 0),
+const IN_LINE: [(u32, Kind, i32); 9] = [
+    (0, Kind::Name, 0),
+    (1, Kind::Name, 0),
+    (500_000, Kind::Name, 0),
+    (500_001, Kind::Integer, -250_000),
+    (750_000, Kind::Integer, -1),
+    (750_001, Kind::Integer, 0),
+    (1_000_000, Kind::Integer, 249_999),
+    (1_000_001, Kind::Name, 0),
+    (4_294_967_295, Kind::Name, 0),
 ];
 
 /// The catalogue answers as the table says, and again when it is asked anew.
-fn answers<C: Catalogue>(catalogue: &mut C, table: &[(u32, u32, i32)]) -> bool {
-    for _ in 0..2 {
-        for (number, kind, value) in table {
-            let (found, worth) = catalogue.lookup(*number);
-            if found.number() != *kind || worth != *value {
-                return false;
-            }
-        }
-    }
-    true
+fn answers<C: Catalogue>(catalogue: &mut C, table: &[(u32, Kind, i32)]) -> bool {
+    (0..2).all(|_| {
+        table.iter().all(|(number, kind, value)| catalogue.lookup(*number) == (*kind, *value))
+    })
 }
 
 #[test]
 fn a_list_answers_for_its_records_and_past_them(rt: HostRuntime) -> Result<(), Fail> {
-    match Listed::load(list(rt.alloc(), &RECORDS)?) {
-        Ok(mut listed) => {
-            assert!(rt; answers(&mut listed, &IN_LIST));
-            Ok(())
-        },
-        Err(_) => Err(Fail::new("refused")),
-    }
+    let mut listed = taken(list(rt.alloc(), &RECORDS)?)?;
+    assert!(rt; answers(&mut listed, &IN_LIST));
+    Ok(())
 }
 
 #[test]
 fn an_empty_list_has_names_only(rt: HostRuntime) -> Result<(), Fail> {
-    match Listed::load(list(rt.alloc(), &[])?) {
-        Ok(mut listed) => {
-            assert!(rt; answers(&mut listed, &[(0, 1, 0), (1, 1, 0), (2, 1, 0)]));
-            Ok(())
-        },
-        Err(_) => Err(Fail::new("refused")),
-    }
+    let mut listed = taken(list(rt.alloc(), &[])?)?;
+    let names = [(0, Kind::Name, 0), (1, Kind::Name, 0), (2, Kind::Name, 0)];
+    assert!(rt; answers(&mut listed, &names));
+    Ok(())
 }
 
 #[test]

@@ -1,14 +1,18 @@
 -- Laws of the text of bytes: each byte's digits are read as the byte. Assumes nothing.
-use Rattle.std.proofs.Common.{◌≡◌, ℕ, suc, ◌+◌, ◌-◌, ◌*◌, ◌/◌, ◌%◌, ◌<◌, ◌≤◌, true, List, [], ◌∷◌, ◌++◌}
-use Rattle.std.proofs.Common.{length, get_or, take, drop, Some, None, sym, refl, ap, ◌∙◌, arith}
-use lib.Utf8.{encode}
-use Rattle.std.proofs.lemmas.Str.Ascii.{encode_ascii}
+use Rattle.std.proofs.Common.{◌≡◌, ℕ, suc, ◌+◌, ◌-◌, ◌*◌, ◌/◌, ◌%◌, ◌^◌, ◌<◌, ◌≤◌, true, false, List, [], ◌∷◌}
+use Rattle.std.proofs.Common.{◌++◌}
+use Rattle.std.proofs.Common.{length, get_or, take, drop, Some, None, Option, Result, sym, refl, ap, ◌∙◌}
+use Rattle.std.proofs.Common.{subst, arith}
+use Rattle.std.proofs.lemmas.Fmt.{hex_byte}
 use Rattle.std.proofs.lemmas.List.{take_all, take_more}
 use Rattle.std.proofs.lemmas.Slice.{first_rest}
 use Rattle.std.proofs.Output.{has_written_of_eq, has_written_append}
 use Rattle.std.proofs.lemmas.Bool.{cond-true}
 use Rattle.std.proofs.lemmas.Bool.Decides.{nat_tests}
-use Rattle.std.specs.Fmt.{IsPlainFormatter, HasWritten}
+use Rattle.std.specs.Fmt.{IsPlainFormatter, HasWritten, DisplaysOnOk, WritesOnOk, digits_output, format_spec}
+use Rattle.std.specs.Fmt.{padded_integral, radix_digits, styled_digits_output}
+use Rattle.std.specs.Option.{option_map}
+use Rattle.std.specs.declared.fmt.Error.{Error}
 use Rattle.std.specs.declared.fmt.Formatter.{Formatter}
 use Rattle.hex_text.specs.Characters.{digit_of, digit_value, space}
 use Rattle.hex_text.specs.Reading.{byte_value, front, led_by, parted, read_text}
@@ -20,17 +24,15 @@ use Rattle.hex_text.proofs.Reading.{read_front, read_space}
 digit_value_of : (n : ℕ) → n < 16 → digit_value (digit_of n) ≡ Some n
 digit_value_of n h = grind (arith, nat_tests)
 
-encode_digit : (c n : ℕ) → n < 16 → c ≡ digit_of n → encode c ≡ digit_of n ∷ []
-encode_digit c n h e = ap encode e ∙ encode_ascii (digit_of n) (grind (arith, nat_tests))
-
 -- a byte
 
-pub encode_pair : (b high low : ℕ) → b < 256 → high ≡ digit_of (b / 16) → low ≡ digit_of (b % 16)
-    → encode high ++ encode low ≡ pair b
-encode_pair b high low h is_high is_low =
-    let first = encode_digit high (b / 16) (omega arith) is_high
-    in let second = encode_digit low (b % 16) (omega arith) is_low
-    in cc
+pub shown_byte : (b : ℕ) (d : _) (s : _) → b < 256
+    → digits_output d ≡ Some (radix_digits 16 true b) → s ≡ format_spec 32 0 4 2 (2 ^ 64 - 1)
+    → styled_digits_output d s ≡ Some (pair b)
+shown_byte b d s h is_digits is_spec =
+    ap (styled_digits_output d) is_spec
+    ∙ ap (option_map (padded_integral (format_spec 32 0 4 2 (2 ^ 64 - 1)) false [])) is_digits
+    ∙ ap Some (hex_byte true b h)
 
 parted-spaced : (bs : List ℕ) → parted (spaced bs) ≡ true
 parted-spaced [] = refl
@@ -52,8 +54,7 @@ spaced-append [] ys = refl
 spaced-append (x ∷ xs) ys = ap (λ (cs : List ℕ). space ∷ (pair x ++ cs)) (spaced-append xs ys)
 
 pub spaced_more : (bytes : List ℕ) (i : ℕ) → i < length bytes
-    → spaced (take i bytes) ++ (encode space ++ pair (get_or bytes i 0)) ≡ spaced (take (i + 1) bytes)
-unfolding encode
+    → spaced (take i bytes) ++ (space ∷ pair (get_or bytes i 0)) ≡ spaced (take (i + 1) bytes)
 spaced_more bytes i h =
     sym (ap spaced (take_more bytes i 0 h) ∙ spaced-append (take i bytes) (get_or bytes i 0 ∷ []))
 
@@ -86,4 +87,11 @@ pub put_then : {W : Type 0} (took : W → List ℕ → W → Type 0) {f g h : Fo
     → xs ++ ys ≡ cs → HasWritten took f xs g → (IsPlainFormatter g → HasWritten took g ys h)
     → HasWritten took f cs h
 put_then took {f} {g} {h} {xs} {ys} {cs} e first second =
-    has_written_of_eq took f (xs ++ ys) cs h e (has_written_append took f xs g ys h first (second first.plain))
+    has_written_of_eq took f (xs ++ ys) cs h e
+    (has_written_append took f xs g ys h first (second first.plain))
+
+-- what shows as a known text is written as that text
+pub shown_as : {W : Type 0} (took : W → List ℕ → W → Type 0) {f g : Formatter W}
+    (r : Result (Unit {0}) Error) {o : Option (List ℕ)} {bs : List ℕ} → o ≡ Some bs
+    → DisplaysOnOk took f r o g → WritesOnOk took f r bs g
+shown_as took {f} {g} r e shows = subst (λ (m : Option (List ℕ)). DisplaysOnOk took f r m g) e shows

@@ -1,25 +1,34 @@
 //! Reading bytes from their text.
-ghost use Rattle.std.specs.Prelude.{◌≡◌, ◌≤◌, true, length, drop, is_some, IfOk, Some};
+ghost use Rattle.std.specs.Prelude.{◌≡◌, filter_map, IfOk};
+ghost use Rattle.std.specs.List.{list_all};
 ghost use Rattle.hex_text.specs.Calls.{Parsed};
-ghost use Rattle.hex_text.specs.Characters.{digit_value};
-ghost use Rattle.hex_text.specs.Reading.{byte_value, front, parted, read_text};
+ghost use Rattle.hex_text.specs.Reading.{read_text};
+ghost use Rattle.hex_text.specs.Words.{is_word, word_value, words};
+ghost use Rattle.hex_text.specs.declared.parse.ParseError.TheVariants.{Memory};
 
-use crate::digit::{BASE, value_of};
 use std::alloc::{AllocError, Global};
 
 /// What stands between two bytes.
 const SPACE: u8 = b' ';
 
-/// How many digits a byte has.
-const DIGITS: usize = 2;
+/// How many values a digit has.
+const BASE: u32 = 16;
 
 /// Why a text gives no bytes.
-#[derive(Clone, Copy)]
+#[derive(Clone, Copy, Debug, PartialEq, Eq)]
 pub enum ParseError {
     /// The text is not two hexadecimal digits a byte, with spaces between.
     NotHex,
     /// The text is bytes, but memory for them is wanting.
     Memory,
+}
+
+impl From<AllocError> for ParseError {
+    ghost from_gives = { λ _ e. e ≡ Memory };
+
+    fn from(_e: AllocError) -> ParseError {
+        ParseError::Memory
+    }
 }
 
 /// The bytes that the text stands for: two hexadecimal digits each, capitals or not, with one space or
@@ -30,71 +39,34 @@ pub fn parse(heap: Global, text: &[u8]) -> Result<Vec<u8>, ParseError>
     if !is_hex(text) {
         return Err(ParseError::NotHex);
     }
-    match bytes_of(heap, text) {
-        Ok(bytes) => Ok(bytes),
-        Err(_) => Err(ParseError::Memory),
-    }
+    Ok(bytes_of(heap, text)?)
 }
 
-/// Whether the text stands for bytes.
+/// Whether each word of the text is a byte. Two spaces in a row have an empty word between.
 fn is_hex(text: &[u8]) -> bool
-    ensures { result ≡ is_some (read_text text.now) }
+    ensures { result ≡ list_all is_word (words text.now) }
 {
-    let mut at = 0;
-    while at < text.len() {
-        match byte_at(text, at) {
-            Some(_) => at += DIGITS,
-            None if text[at] == SPACE => at += 1,
-            None => return false,
-        }
-    }
-    true
+    text.split(|c| *c == SPACE)
+        .all(|word| word.is_empty() || byte_of(word).is_some())
 }
 
-/// The bytes of a text that stands for some.
+/// The bytes that words of the text make.
 fn bytes_of(heap: Global, text: &[u8]) -> Result<Vec<u8>, AllocError>
-    requires { is_some (read_text text.now) ≡ true }
-    ensures { IfOk result (λ v. read_text text.now ≡ Some v.items) }
+    ensures { IfOk result (λ v. v.items ≡ filter_map word_value (words text.now)) }
 {
-    let mut bytes = Vec::new(heap);
-    let mut at = 0;
-    while at < text.len() {
-        match byte_at(text, at) {
-            Some(byte) => {
-                bytes.push(byte)?;
-                at += DIGITS;
-            }
-            None => at += 1,
-        }
-    }
-    Ok(bytes)
+    text.split(|c| *c == SPACE)
+        .filter_map(byte_of)
+        .collect(heap)
 }
 
-/// The byte whose two digits stand at the place `at`, with a space or the end behind them.
-fn byte_at(text: &[u8], at: usize) -> Option<u8>
-    requires { at ≤ length text.now }
-    ensures { result ≡ front (drop at text.now) }
+/// The byte that a word of two digits makes, the higher first; none for any other word.
+fn byte_of(word: &[u8]) -> Option<u8>
+    ensures { result ≡ word_value word.now }
 {
-    if text.len() - at < DIGITS {
+    let [high, low] = word else {
         return None;
-    }
-    if !is_parted(text, at + DIGITS) {
-        return None;
-    }
-    byte_from(text[at], text[at + 1])
-}
-
-/// Whether a space or the end stands at the place `at`.
-fn is_parted(text: &[u8], at: usize) -> bool
-    requires { at ≤ length text.now }
-    ensures { result ≡ parted (drop at text.now) }
-{
-    at == text.len() || text[at] == SPACE
-}
-
-/// The byte that two digits make, the higher first.
-fn byte_from(high: u8, low: u8) -> Option<u8>
-    ensures { result ≡ byte_value (digit_value high) (digit_value low) }
-{
-    Some(BASE * value_of(high)? + value_of(low)?)
+    };
+    let high = char::from(*high).to_digit(BASE)?;
+    let low = char::from(*low).to_digit(BASE)?;
+    u8::try_from(BASE * high + low).ok()
 }

@@ -1,9 +1,7 @@
 //! Writing bytes as text.
-ghost use Rattle.std.specs.Fmt.{WritesOnOk};
 ghost use Rattle.std.specs.Prelude.{Some};
-ghost use Rattle.hex_text.specs.Writing.{pair, spaced, text_of};
+ghost use Rattle.hex_text.specs.Writing.{text_of};
 
-use crate::digit::{BASE, digit_of};
 use std::fmt;
 use std::fmt::{Formatter, Write};
 
@@ -17,31 +15,14 @@ impl fmt::Display for HexText<'_> {
     ghost output = { λ t. Some (text_of t.bytes.now) };
 
     fn fmt<W: Write>(&self, f: &mut Formatter<W>) -> fmt::Result {
-        match self.bytes {
-            [] => Ok(()),
-            [first, rest @ ..] => {
-                put_byte(*first, f)?;
-                put_rest(rest, f)
-            }
+        let [first, rest @ ..] = self.bytes else {
+            return Ok(());
+        };
+        let first = *first;
+        write!(f, "{first:02X}")?;
+        for &byte in rest {
+            write!(f, " {byte:02X}")?;
         }
+        Ok(())
     }
-}
-
-/// Writes bytes that follow others, a space before each.
-fn put_rest<W: Write>(bytes: &[u8], f: &mut Formatter<W>) -> fmt::Result
-    ensures { WritesOnOk W.Write.write_str_gives f.old result (spaced bytes.now) f.new }
-{
-    for byte in bytes {
-        f.write_char(' ')?;
-        put_byte(*byte, f)?;
-    }
-    Ok(())
-}
-
-/// Writes the two digits of a byte.
-fn put_byte<W: Write>(byte: u8, f: &mut Formatter<W>) -> fmt::Result
-    ensures { WritesOnOk W.Write.write_str_gives f.old result (pair byte) f.new }
-{
-    f.write_char(digit_of(byte / BASE))?;
-    f.write_char(digit_of(byte % BASE))
 }

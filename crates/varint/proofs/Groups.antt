@@ -1,6 +1,9 @@
 -- Laws of groups: how one group is split off, and what holds of every number by its groups. Assumes nothing.
-use Rattle.std.proofs.Common.{◌≡◌, ℕ, zero, suc, ◌+◌, ◌/◌, ◌%◌, ◌^◌, ◌<◌, ◌≤◌, ltb, List, [], ◌∷◌, length}
+use Rattle.std.proofs.Common.{◌≡◌, ℕ, zero, suc, ◌+◌, ◌*◌, ◌/◌, ◌%◌, ◌^◌, ◌<◌, ◌≤◌, max, ltb, List, [], ◌∷◌}
+use Rattle.std.proofs.Common.{length}
 use Rattle.std.proofs.Common.{sym, refl, ap, ◌∙◌, ⊎_elim, pow-suc, arith}
+use native.Mathlib.Nat.{pow-le-pow_right}
+use Rattle.std.proofs.lemmas.Nat.{pow-add}
 use Rattle.std.proofs.lemmas.Bool.{cases_lt, cond_both, cond-true, cond-false, lt-ltb, le-ltb, ltb-true}
 use Rattle.std.proofs.lemmas.Bool.{ltb-false}
 use Rattle.varint.specs.Encode.{encode, groups, largest}
@@ -63,3 +66,38 @@ pub encode_each : (P : ℕ → List ℕ → Type 0)
     → (n : ℕ) → n ≤ largest → P n (encode n)
 unfolding encode
 encode_each P last more n h = groups_each P last more 4 n (omega arith)
+
+-- a number of so many groups takes as many bytes
+length-groups_at : (k n j : ℕ) → j ≤ k → (0 < j → 128 ^ j ≤ n) → n < 128 ^ suc j
+    → length (groups k n) ≡ suc j
+length-groups_at k n zero h low high = ap length (groups_less k n (omega arith))
+length-groups_at zero n (suc j) h low high = absurd (omega arith)
+length-groups_at (suc k) n (suc j) h low high =
+    let some : 128 ^ 0 ≤ 128 ^ j = pow-le-pow_right {n = 128} (omega arith) {i = 0} {j = j} (omega arith)
+    in let split = pow-suc 128 j
+    in let more : 128 ≤ n = omega (arith, low (omega arith))
+    in ap length (groups_more k n more)
+    ∙ ap suc (length-groups_at k (n / 128) j (omega arith) (λ p. omega (arith, low (omega arith)))
+    (omega (arith, pow-suc 128 (suc j))))
+
+pow_group : (j : ℕ) → 128 ^ j ≡ 2 ^ (7 * j)
+pow_group zero = refl
+pow_group (suc j) =
+    let e : 7 * suc j ≡ 7 + 7 * j = omega arith
+    in omega (arith, pow-suc 128 j, pow_group j, pow-add 2 7 (7 * j), ap (λ n. 2 ^ n) e)
+
+-- a number takes a byte for each seven of its bits, and 0 takes one
+pub length-encode_bits : (n m r : ℕ) → m ≡ max n 1 → n ≤ largest → r < 32 → 2 ^ r ≤ m → m < 2 * 2 ^ r
+    → r / 7 + 1 ≡ length (encode n)
+unfolding encode
+length-encode_bits n m r e h few low high =
+    let j = r / 7
+    in let below : 2 ^ (7 * j) ≤ 2 ^ r =
+    pow-le-pow_right {n = 2} (omega arith) {i = 7 * j} {j = r} (omega arith)
+    in let above : 2 ^ suc r ≤ 2 ^ (7 * suc j) =
+    pow-le-pow_right {n = 2} (omega arith) {i = suc r} {j = 7 * suc j} (omega arith)
+    in let is = length-groups_at 4 n j (omega arith)
+    (λ some. let more : 128 ^ 1 ≤ 128 ^ j = pow-le-pow_right {n = 128} (omega arith) {i = 1} {j = j} some
+    in omega (arith, pow_group j))
+    (omega (arith, pow_group (suc j), pow-suc 2 r))
+    in omega arith

@@ -1,14 +1,16 @@
 -- Laws of numbers in seven-bit groups: what is written is read back, and nothing else is read as a number.
 -- Assumes nothing.
-use Rattle.std.proofs.Common.{◌≡◌, ℕ, zero, suc, ◌+◌, ◌-◌, ◌%◌, ◌<◌, ◌≤◌, true, ◌&&◌, eqb, ltb, leb, ◌⊎◌}
+use Rattle.std.proofs.Common.{◌≡◌, ℕ, zero, suc, ◌+◌, ◌-◌, ◌%◌, ◌<◌, ◌≤◌, ◌&&◌, ltb, leb, ◌⊎◌}
 use Rattle.std.proofs.Common.{List, [], ◌∷◌, ◌++◌, length, take, drop, sym, refl, ap, ◌∙◌, subst, inl, inr}
 use Rattle.std.proofs.Common.{⊎_elim, arith}
 use Rattle.std.proofs.lemmas.List.{append-nil, take_at, take-append-drop, length-take-le}
-use Rattle.std.proofs.lemmas.Bool.{and_from, and_parts, cases_lt, cond_both, cond-true, cond-false, eq-eqb}
-use Rattle.std.proofs.lemmas.Bool.{eqb-true, le-leb, leb-true, lt-ltb, le-ltb}
+use Rattle.std.proofs.lemmas.Bool.{and_from, and_parts, cases_lt, cond_both, cond-true, cond-false}
+use Rattle.std.proofs.lemmas.Bool.{le-leb, leb-true, lt-ltb, le-ltb}
+use Rattle.std.proofs.lemmas.Slice.Eq.{bytes_eq-Decides}
+use Rattle.std.specs.Str.{bytes_eq}
 use Rattle.varint.specs.Encode.{most_bytes, encode, largest}
 use Rattle.varint.specs.Decode.{ends_early, malformed, decoded, decode}
-use Rattle.varint.specs.Decode.{one_more, span, value, same, judged, spanned}
+use Rattle.varint.specs.Decode.{one_more, span, value, judged, spanned}
 use Rattle.varint.proofs.Groups.{length-groups, encode_each}
 
 -- length
@@ -89,22 +91,6 @@ span-encode n rest h =
       span-suc (128 + n % 128) (bs ++ rest) (omega arith) (omega arith) ∙ ap suc e.1,
     )) n h).1
 
--- same
-
-same_refl : (bs : List ℕ) → same bs bs ≡ true
-same_refl [] = refl
-same_refl (b ∷ bs) = and_from (eqb b b) (same bs bs) (eq-eqb b b refl) (same_refl bs)
-
-pub same_true : (xs ys : List ℕ) → same xs ys ≡ true → xs ≡ ys
-same_true [] [] h = refl
-same_true [] (y ∷ ys) h = cc
-same_true (x ∷ xs) [] h = cc
-same_true (x ∷ xs) (y ∷ ys) h =
-    let both = and_parts (eqb x y) (same xs ys) h
-    in let head = eqb-true x y both.0
-    in let tail = same_true xs ys both.1
-    in cc
-
 -- value
 
 value-encode : (n : ℕ) → n ≤ largest → value (encode n) ≡ n
@@ -115,9 +101,9 @@ value-encode = encode_each (λ n bs. value bs ≡ n) (λ n h. omega arith) (λ n
 pub judged_yes : (bs : List ℕ) → value bs ≤ largest → encode (value bs) ≡ bs
     → judged bs ≡ decoded (value bs) (length bs)
 judged_yes bs h e =
-    cond-true (leb (value bs) largest && same (encode (value bs)) bs)
+    cond-true (leb (value bs) largest && bytes_eq (encode (value bs)) bs)
     (decoded (value bs) (length bs)) malformed
-    (and_from _ _ (le-leb (value bs) largest h) (rw e (same_refl bs)))
+    (and_from _ _ (le-leb (value bs) largest h) ((bytes_eq-Decides (encode (value bs)) bs).1 e))
 
 judged-encode : (n : ℕ) → n ≤ largest → judged (encode n) ≡ decoded n (length (encode n))
 judged-encode n h =
@@ -130,15 +116,15 @@ malformed≢decoded n k e = let z : ◌≡◌ {A = ℕ} 0 1 = cc in omega arith
 -- what is in order is within the limit and stands as it is written
 judged_back : (bs : List ℕ) (n k : ℕ) → judged bs ≡ decoded n k
     → (n ≤ largest) × (encode n ≡ bs) × (k ≡ length bs)
-judged_back bs n k = cond_both (leb (value bs) largest && same (encode (value bs)) bs)
+judged_back bs n k = cond_both (leb (value bs) largest && bytes_eq (encode (value bs)) bs)
     (decoded (value bs) (length bs)) malformed
     (λ r. r ≡ decoded n k → (n ≤ largest) × (encode n ≡ bs) × (k ≡ length bs))
     (λ t e.
-    let both = and_parts (leb (value bs) largest) (same (encode (value bs)) bs) t
+    let both = and_parts (leb (value bs) largest) (bytes_eq (encode (value bs)) bs) t
     in let is : value bs ≡ n = cc
     in (
       omega (arith, leb-true (value bs) largest both.0),
-      ap encode (sym is) ∙ same_true (encode (value bs)) bs both.1,
+      ap encode (sym is) ∙ (bytes_eq-Decides (encode (value bs)) bs).0 both.1,
       cc,
     ))
     (λ _ e. absurd (malformed≢decoded n k e))

@@ -1,18 +1,22 @@
 -- What a reader that looks for the last byte first may conclude: where the number ends, what it is worth,
 -- and whether it is in order. Assumes nothing.
-use Rattle.std.proofs.Common.{◌≡◌, ℕ, zero, suc, ◌+◌, ◌-◌, ◌*◌, ◌/◌, ◌%◌, ◌^◌, ◌<◌, ◌≤◌, true, false, ◌&&◌}
-use Rattle.std.proofs.Common.{eqb, ltb, leb, List, [], ◌∷◌, length, get_or, take, drop, sym, refl, ap, ◌∙◌}
-use Rattle.std.proofs.Common.{subst, ⊎_elim, pow-suc, arith}
-use native.Mathlib.Nat.{pow-le-pow_right}
-use Rattle.std.proofs.lemmas.List.{drop_more, get_or-drop, get_or-take, length-drop}
+use Rattle.std.proofs.Common.{◌≡◌, ℕ, zero, suc, ◌+◌, ◌-◌, ◌*◌, ◌/◌, ◌%◌, ◌<◌, ◌≤◌, true, false, ◌&&◌}
+use Rattle.std.proofs.Common.{eqb, ltb, leb, List, [], ◌∷◌, length, get_or, reverse, fold, take, sym, refl}
+use Rattle.std.proofs.Common.{ap, ◌∙◌}
+use Rattle.std.proofs.Common.{subst, ⊎_elim, arith}
+use Rattle.std.proofs.lemmas.Grind.{fold-append}
+use Rattle.std.proofs.lemmas.List.{get_or-take, reverse-append}
 use Rattle.std.proofs.lemmas.Bool.{and_cases, and_parts, cases_Bool, cond-false, eqb-true, eqb-false}
 use Rattle.std.proofs.lemmas.Bool.{leb-true, ltb-true, ltb-false}
-use Rattle.varint.specs.Ending.{Ends, padded}
+use Rattle.std.proofs.lemmas.Slice.Eq.{bytes_eq-Decides}
+use Rattle.std.specs.Str.{bytes_eq}
+use Rattle.std.specs.List.{AllWithin, HoldsAt}
+use Rattle.varint.specs.Ending.{IsFirst, padded}
 use Rattle.varint.specs.Encode.{encode, groups, largest}
-use Rattle.varint.specs.Decode.{malformed, decoded, one_more, span, value, same, judged, decode}
+use Rattle.varint.specs.Decode.{malformed, decoded, one_more, span, value, judged, decode}
 use Rattle.varint.proofs.Groups.{groups_less, groups_more, encode_each}
 use Rattle.varint.proofs.Laws.{length-encode, span_last, span_more, span-suc, span_each, length-span}
-use Rattle.varint.proofs.Laws.{same_true, judged_yes, decode_some}
+use Rattle.varint.proofs.Laws.{judged_yes, decode_some}
 
 -- span
 
@@ -31,29 +35,19 @@ span_found (suc k) (b ∷ bs) l h e =
 
 -- value
 
-value-lt : (k : ℕ) (bs : List ℕ) → value (take k bs) < 128 ^ k
-value-lt zero bs = omega arith
-value-lt (suc k) [] = omega (arith, value-lt k [], pow-suc 128 k)
-value-lt (suc k) (b ∷ bs) = omega (arith, value-lt k bs, pow-suc 128 k)
-
-pub value-lt_four : (k : ℕ) (bs : List ℕ) → k ≤ 4 → value (take k bs) < 128 ^ 4
-value-lt_four k bs h = omega (arith, value-lt k bs, pow-le-pow_right {n = 128} (omega arith) h)
+-- the groups from the last one on make the value
+pub fold-reverse : (bs : List ℕ) → fold (λ n b. n * 128 + b % 128) 0 (reverse bs) ≡ value bs
+fold-reverse [] = refl
+fold-reverse (b ∷ bs) =
+    ap (fold (λ n c. n * 128 + c % 128) 0) (reverse-append (b ∷ []) bs)
+    ∙ fold-append (λ n c. n * 128 + c % 128) 0 (reverse bs) (b ∷ [])
+    ∙ omega (arith, fold-reverse bs)
 
 value_some : (k : ℕ) (bs : List ℕ) → span bs ≡ suc k → 0 < get_or bs k 0 → 0 < value (take (suc k) bs)
 value_some =
     span_each (λ k bs. 0 < get_or bs k 0 → 0 < value (take (suc k) bs))
     (λ b bs less h. omega arith)
     (λ b bs k more e some h. omega (arith, some h))
-
--- one group more, in front of those from the place i on
-pub value_back : (bs : List ℕ) (i end : ℕ) → 0 < i → i ≤ end → end ≤ length bs
-    → value (take (end - (i - 1)) (drop (i - 1) bs))
-    ≡ value (take (end - i) (drop i bs)) * 128 + get_or bs (i - 1) 0 % 128
-value_back bs i end some h l =
-    let e : i - 1 + 1 ≡ i = omega arith
-    in let d : end - (i - 1) ≡ suc (end - i) = omega arith
-    in let within : i - 1 < length bs = omega arith
-    in rw (d, drop_more bs (i - 1) 0, e) (omega arith)
 
 -- groups
 
@@ -108,10 +102,10 @@ last_encode (suc n) k h some e =
 
 judged_no : (bs : List ℕ) → (value bs ≤ largest → encode (value bs) ≡ bs → ⊥) → judged bs ≡ malformed
 judged_no bs wrong =
-    let test = leb (value bs) largest && same (encode (value bs)) bs
+    let test = leb (value bs) largest && bytes_eq (encode (value bs)) bs
     in ⊎_elim
-    (λ t. let both = and_parts (leb (value bs) largest) (same (encode (value bs)) bs) t
-    in absurd (wrong (leb-true _ _ both.0) (same_true _ _ both.1)))
+    (λ t. let both = and_parts (leb (value bs) largest) (bytes_eq (encode (value bs)) bs) t
+    in absurd (wrong (leb-true _ _ both.0) ((bytes_eq-Decides _ _).0 both.1)))
     (λ f. cond-false test (decoded (value bs) (length bs)) malformed f)
     (cases_Bool test)
 
@@ -146,61 +140,52 @@ decode_shortest k bs is h small some l =
     ∙ judged_yes (take (span bs) bs) l as_written
     ∙ ap (decoded (value (take (span bs) bs))) (length-span bs)
 
--- places
+-- the first number of a byte string
 
-pub ends_none : (bytes : List ℕ) (at : ℕ)
-    → ((i : ℕ) → at ≤ i → i < length bytes → 128 ≤ get_or bytes i 0) → span (drop at bytes) ≡ 0
-ends_none bytes at passed =
-    span_none (drop at bytes)
-    (λ i h. rw get_or-drop (passed (at + i) (omega arith) (omega (arith, length-drop at bytes))))
+pub ends_none : (bytes : List ℕ) → AllWithin (λ b. 128 ≤ b) bytes 0 (length bytes) → span bytes ≡ 0
+ends_none bytes passed = span_none bytes (λ i h. passed i 0 (omega arith) h)
 
-pub ends_found : (bytes : List ℕ) (at last : ℕ) → at ≤ last → last < length bytes
-    → ((i : ℕ) → at ≤ i → i < last → 128 ≤ get_or bytes i 0) → get_or bytes last 0 < 128 → Ends bytes at last
-ends_found bytes at last from within passed below =
-    let e : at + (last - at) ≡ last = omega arith
-    in let found = span_found (last - at) (drop at bytes) (omega (arith, length-drop at bytes))
-    (λ i h. rw get_or-drop (passed (at + i) (omega arith) (omega arith)))
-    (rw (get_or-drop, e) below)
-    in record { from = from; within = within; spans = omega arith }
+pub first_found : (bytes : List ℕ) (i : ℕ) → i < length bytes → HoldsAt (λ b. b < 128) bytes i
+    → AllWithin (λ b. 128 ≤ b) bytes 0 i → IsFirst bytes (take (i + 1) bytes)
+first_found bytes i h below passed =
+    let e = span_found i bytes h (λ k l. passed k 0 (omega arith) l) (below 0)
+    in let n : i + 1 ≡ span bytes = omega arith
+    in record { ends = omega arith; front = ap (λ (m : ℕ). take m bytes) n }
 
-module _ {bytes : List ℕ} {at last : ℕ} (ends : Ends bytes at last) where
-  -- the number that begins at the place at
-  abbrev number : List ℕ
-  number = take (last + 1 - at) (drop at bytes)
+module _ {bytes number : List ℕ} (first : IsFirst bytes number) where
+  length_first : length number ≡ span bytes
+  length_first = ap length first.front ∙ length-span bytes
 
-  span_at : span (drop at bytes) ≡ suc (last - at)
-  span_at = omega arith
+  last_first : get_or number (length number - 1) 0 ≡ get_or bytes (span bytes - 1) 0
+  last_first =
+      let inside : span bytes - 1 < span bytes = omega (arith, first.ends)
+      in rw (length_first, first.front) (get_or-take (span bytes) bytes (span bytes - 1) 0 inside)
 
-  last_at : get_or (drop at bytes) (last - at) 0 ≡ get_or bytes last 0
-  last_at = let e : at + (last - at) ≡ last = omega arith in rw (get_or-drop, e)
+  value_first : value (take (span bytes) bytes) ≡ value number
+  value_first = ap value (sym first.front)
 
-  pub long_at : 5 < last - at + 1 → decode (drop at bytes) ≡ malformed
-  long_at h = decode_long (drop at bytes) (omega arith)
+  pub long_first : 5 < length number → decode bytes ≡ malformed
+  long_first h = decode_long bytes (omega (arith, length_first))
 
-  pub padded_at : padded bytes at last ≡ true → decode (drop at bytes) ≡ malformed
-  padded_at t =
-      let both = and_parts (ltb at last) (eqb (get_or bytes last 0) 0) t
-      in let more = ltb-true at last both.0
-      in decode_padded (last - at) (drop at bytes) span_at (omega arith)
-      (last_at ∙ eqb-true (get_or bytes last 0) 0 both.1)
+  pub padded_first : padded number ≡ true → decode bytes ≡ malformed
+  padded_first t =
+      let both = and_parts (ltb 1 (length number)) (eqb (get_or number (length number - 1) 0) 0) t
+      in let more = ltb-true 1 (length number) both.0
+      in decode_padded (span bytes - 1) bytes (omega (arith, first.ends)) (omega (arith, length_first, more))
+      (sym last_first ∙ eqb-true (get_or number (length number - 1) 0) 0 both.1)
 
-  last_some : padded bytes at last ≡ false → at < last → 0 < get_or bytes last 0
+  last_some : padded number ≡ false → 1 < length number → 0 < get_or bytes (span bytes - 1) 0
   last_some f h =
-      ⊎_elim (λ e. absurd (omega (arith, ltb-false at last e)))
-      (λ e. let some = eqb-false (get_or bytes last 0) 0 e in omega arith)
-      (and_cases (ltb at last) (eqb (get_or bytes last 0) 0) f)
+      ⊎_elim (λ e. absurd (omega (arith, ltb-false 1 (length number) e)))
+      (λ e. let some = eqb-false (get_or number (length number - 1) 0) 0 e in omega (arith, last_first))
+      (and_cases (ltb 1 (length number)) (eqb (get_or number (length number - 1) 0) 0) f)
 
-  pub large_at : (v : ℕ) → v ≡ value number → largest < v → decode (drop at bytes) ≡ malformed
-  large_at v e h =
-      let large : largest < value number = omega arith
-      in decode_large (drop at bytes) (omega arith) (rw ends.spans large)
+  pub large_first : largest < value number → decode bytes ≡ malformed
+  large_first h = decode_large bytes first.ends (omega (arith, value_first))
 
-  pub shortest_at : (v k : ℕ) → v ≡ value number → k ≡ last + 1 - at → v ≤ largest → k ≤ 5
-      → padded bytes at last ≡ false → ((i : ℕ) → get_or bytes i 0 < 256)
-      → decode (drop at bytes) ≡ decoded v k
-  shortest_at v k is_v is_k l h f small =
-      let spans = ends.spans
-      in let low : value number ≤ largest = omega arith
-      in let is = decode_shortest (last - at) (drop at bytes) span_at (omega arith)
-      (λ i. rw get_or-drop (small (at + i))) (λ p. rw last_at (last_some f (omega arith))) (rw spans low)
-      in cc
+  pub shortest_first : length number ≤ 5 → padded number ≡ false → value number ≤ largest
+      → ((i : ℕ) → get_or bytes i 0 < 256) → decode bytes ≡ decoded (value number) (length number)
+  shortest_first h f l small =
+      decode_shortest (span bytes - 1) bytes (omega (arith, first.ends)) (omega (arith, length_first)) small
+      (λ p. last_some f (omega (arith, length_first))) (omega (arith, value_first))
+      ∙ ap (λ v. decoded v (span bytes)) value_first ∙ ap (decoded (value number)) (sym length_first)

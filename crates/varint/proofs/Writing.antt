@@ -1,42 +1,72 @@
--- What a writer that puts one group after the other keeps, and what the buffer holds in the end.
--- Assumes nothing.
-use Rattle.std.proofs.Common.{◌≡◌, ℕ, suc, ◌+◌, ◌/◌, ◌%◌, ◌<◌, ◌≤◌, List, ◌∷◌, length, take, drop, set, sym}
-use Rattle.std.proofs.Common.{ap, ◌∙◌, append_assoc, arith}
-use lib.Seq.{sets, sets-eq}
-use Rattle.varint.specs.Calls.{placed}
+-- What a writer that puts one group after the other keeps. Assumes nothing.
+use Rattle.std.proofs.Common.{◌≡◌, ℕ, ◌+◌, ◌/◌, ◌%◌, ◌<◌, ◌≤◌, List, [], ◌∷◌, ◌++◌, length, take, set, sym}
+use Rattle.std.proofs.Common.{refl}
+use Rattle.std.proofs.Common.{ap, ◌∙◌, append_assoc, length-append, length-set, arith}
+use Rattle.std.proofs.lemmas.Grind.{take-set_at}
+use Rattle.std.proofs.lemmas.List.{length-take-le, take_all}
 use Rattle.varint.specs.Encode.{encode, largest}
 use Rattle.varint.proofs.Groups.{encode_less, encode_more}
 use Rattle.varint.proofs.Laws.{length-encode}
 
--- left
-
--- with rest written from the place i of out on, n stands at the place at of before
-pub record Left (n at : ℕ) (before : List ℕ) (rest i : ℕ) (out : List ℕ) : Type 0 where
+-- the i bytes of out before those of rest are the first ones of n; where out ends at i, they are all
+pub record Left (n rest i : ℕ) (out : List ℕ) : Type 0 where
   pub low : rest ≤ n
-  pub ends : i + length (encode rest) ≡ at + length (encode n)
-  pub bytes : sets out i (encode rest) ≡ sets before at (encode n)
+  pub room : length out ≡ length (encode n)
+  pub some : i < length out → take i out ++ encode rest ≡ encode n
+  pub all : length out ≤ i → take i out ≡ encode n
 
-module _ {n at : ℕ} {before : List ℕ} {rest i : ℕ} {out : List ℕ} (left : Left n at before rest i out) where
-  pub left_below : at + length (encode n) ≤ length out → i < length out
-  left_below h = omega (arith, length-encode rest)
+module _ {n rest i : ℕ} {out : List ℕ} (left : Left n rest i out) where
+  -- the bytes up to and with the one at i
+  next_bytes : (b : ℕ) → i < length out → take (i + 1) (set out i b) ≡ take i out ++ b ∷ []
+  next_bytes b h = take-set_at out i (i + 1) b refl h
 
-  pub left_more : (b next j : ℕ) → b ≡ 128 + rest % 128 → next ≡ rest / 128 → j ≡ i + 1
-      → n ≤ largest → 128 ≤ rest → Left n at before next j (set out i b)
-  left_more b next j is_b is_next is_j h more =
-      let low = left.low
-      in let e = encode_more rest (omega arith) more
-      in let step : sets out i ((128 + rest % 128) ∷ encode (rest / 128)) ≡ sets before at (encode n)
-      = sym (ap (sets out i) e) ∙ left.bytes
-      in let place : j ≡ suc i = omega arith
+  -- the last byte is written, and no rest is left
+  pub left_last : (b next : ℕ) → i < length out → rest < 128 → b ≡ rest → next ≤ rest
+      → Left n next (i + 1) (set out i b)
+  left_last b next h less is_b is_next =
+      let whole = left.some h
+      in let one = encode_less rest less
+      in let long : length (encode n) ≡ i + 1 = omega (
+        arith,
+        ap length whole,
+        length-append (take i out) (encode rest),
+        ap length one,
+        length-take-le i out (omega arith),
+      )
       in record {
-        low = omega arith;
-        ends = omega (arith, ap length e, ap (λ m. length (encode m)) is_next);
-        bytes = cc;
+        low = omega (arith, left.low);
+        room = length-set out i b ∙ left.room;
+        some = λ more. absurd (omega (arith, left.room, length-set out i b));
+        all = λ end. next_bytes b h ∙ ap (λ (m : ℕ). take i out ++ m ∷ []) is_b
+            ∙ ap (λ bs. take i out ++ bs) (sym one) ∙ whole;
       }
 
-  pub left_all : (b : ℕ) → b ≡ rest → rest < 128 → at + length (encode n) ≤ length before
-      → set out i b ≡ placed before at (encode n)
-  left_all b is_b less h =
-      ap (set out i) is_b ∙ sym (ap (sets out i) (encode_less rest less)) ∙ left.bytes
-      ∙ sets-eq (encode n) before at h
-      ∙ append_assoc (take at before) (encode n) (drop (at + length (encode n)) before)
+  -- a byte with more behind it is written
+  pub left_more : (b next : ℕ) → n ≤ largest → i < length out → 128 ≤ rest
+      → b ≡ 128 + rest % 128 → next ≡ rest / 128
+      → Left n next (i + 1) (set out i b)
+  left_more b next small h more is_b is_next =
+      let whole = left.some h
+      in let split = encode_more rest (omega (arith, left.low)) more
+      in let long : i + 1 < length (encode n) = omega (
+        arith,
+        ap length whole,
+        length-append (take i out) (encode rest),
+        ap length split,
+        length-encode (rest / 128),
+        length-take-le i out (omega arith),
+      )
+      in record {
+        low = omega (arith, left.low);
+        room = length-set out i b ∙ left.room;
+        some = λ _. ap (λ bs. bs ++ encode next) (next_bytes b h)
+            ∙ append_assoc (take i out) (b ∷ []) (encode next)
+            ∙ ap (λ (m : ℕ). take i out ++ m ∷ encode next) is_b
+            ∙ ap (λ m. take i out ++ (128 + rest % 128) ∷ encode m) is_next
+            ∙ ap (λ bs. take i out ++ bs) (sym split) ∙ whole;
+        all = λ end. absurd (omega (arith, left.room, length-set out i b));
+      }
+
+  -- where out ends, all is written
+  pub left_all : length out ≤ i → out ≡ encode n
+  left_all h = sym (take_all i out h) ∙ left.all h

@@ -3,8 +3,9 @@
 --                     0 where there is none
 --     value bytes     the number that the groups of bytes make, the lowest first
 --     decode bytes    the first number and its length, or why there is none
-use Rattle.std.specs.Prelude.{ℕ, zero, suc, ◌+◌, ◌*◌, ◌%◌, Bool, true, false, cond, ◌&&◌, List, [], ◌∷◌}
-use Rattle.std.specs.Prelude.{length, take, ◌==◌, nat_le, nat_lt}
+use Rattle.std.specs.Prelude.{ℕ, zero, suc, ◌+◌, ◌*◌, ◌%◌, cond, ◌&&◌, List, [], ◌∷◌, length, take, nat_le}
+use Rattle.std.specs.Prelude.{nat_lt}
+use Rattle.std.specs.Str.{bytes_eq}
 use Rattle.varint.specs.Encode.{encode, largest}
 
 -- the first number of a byte string: it has no last byte, it is not as it would be written,
@@ -29,17 +30,10 @@ abbrev pub value : List ℕ → ℕ
 value [] = 0
 value (b ∷ bs) = b % 128 + 128 * value bs
 
--- two byte strings are the same
-abbrev pub same : List ℕ → List ℕ → Bool
-same [] [] = true
-same [] (c ∷ cs) = false
-same (b ∷ bs) [] = false
-same (b ∷ bs) (c ∷ cs) = b == c && same bs cs
-
 -- a number is in order if it has at most 32 bits and stands as it is written, which is its shortest form
 abbrev pub judged : List ℕ → Decoded
 judged bytes =
-    cond (nat_le (value bytes) largest && same (encode (value bytes)) bytes)
+    cond (nat_le (value bytes) largest && bytes_eq (encode (value bytes)) bytes)
     (decoded (value bytes) (length bytes)) malformed
 
 -- the first number of bs, which takes so many bytes

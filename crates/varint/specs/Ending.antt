@@ -1,14 +1,12 @@
--- Where the number at a place of a byte string ends. Assumes nothing.
-use Rattle.std.specs.Prelude.{◌≡◌, ℕ, ◌+◌, ◌-◌, ◌<◌, ◌≤◌, Bool, ◌&&◌, List, length, drop, ◌==◌, nat_lt}
-use Rattle.std.specs.Prelude.{slice_index}
+-- Where the first number of a byte string ends. Assumes nothing.
+use Rattle.std.specs.Prelude.{◌≡◌, ℕ, ◌-◌, ◌<◌, Bool, ◌&&◌, List, length, take, ◌==◌, nat_lt, slice_index}
 use Rattle.varint.specs.Decode.{span}
 
--- the number that begins at the place at of bytes has its last byte at the place last
-pub record Ends (bytes : List ℕ) (at last : ℕ) : Type 0 where
-  pub from : at ≤ last
-  pub within : last < length bytes
-  pub spans : span (drop at bytes) ≡ last + 1 - at
+-- number is the first number of bytes, which has its last byte there
+pub record IsFirst (bytes number : List ℕ) : Type 0 where
+  pub ends : 0 < span bytes
+  pub front : number ≡ take (span bytes) bytes
 
--- the number from the place at to the place last has more than one byte, and the last one adds nothing to it
-abbrev pub padded : List ℕ → ℕ → ℕ → Bool
-padded bytes at last = nat_lt at last && slice_index bytes last == 0
+-- the number has more than one byte, and the last one adds nothing to it
+abbrev pub padded : List ℕ → Bool
+padded number = nat_lt 1 (length number) && slice_index number (length number - 1) == 0

@@ -1,4 +1,5 @@
 //! What `write` puts into a buffer, and what `read` makes of it.
+use varint::number::{NoRoom, Number};
 use varint::read::read;
 use varint::write::write;
 
@@ -19,32 +20,19 @@ const OTHER: u8 = 0xAA;
 
 /// The buffer holds the bytes from the place `at` on, and nothing else.
 fn holds(buffer: &[u8], at: usize, bytes: &[u8]) -> bool {
-    for (i, byte) in buffer.iter().enumerate() {
-        let expected = if i >= at && i - at < bytes.len() {
-            bytes[i - at]
-        } else {
-            OTHER
-        };
-        if *byte != expected {
-            return false;
-        }
-    }
-    true
+    buffer.iter().enumerate().all(|(place, byte)| {
+        let written = place.checked_sub(at).and_then(|i| bytes.get(i));
+        *byte == *written.unwrap_or(&OTHER)
+    })
 }
 
 /// `n` is written at the place `at` as these bytes, and read back.
 fn round_trips(n: u32, bytes: &[u8], at: usize) -> bool {
     let mut buffer = [OTHER; 12];
-    let Ok(length) = write(n, &mut buffer, at) else {
-        return false;
-    };
-    let Ok(number) = read(&buffer, at) else {
-        return false;
-    };
-    length == bytes.len()
+    let length = bytes.len();
+    write(n, &mut buffer, at) == Ok(length)
         && holds(&buffer, at, bytes)
-        && number.value == n
-        && number.length == length
+        && read(&buffer, at) == Ok(Number { value: n, length })
 }
 
 #[test]
@@ -58,9 +46,9 @@ fn numbers_stand_as_in_the_table_and_are_read_back(rt: HostRuntime) {
 #[test]
 fn no_room_leaves_the_buffer(rt: HostRuntime) {
     let mut buffer = [OTHER; 4];
-    assert!(rt; write(4_294_967_295, &mut buffer, 0).is_err());
-    assert!(rt; write(300, &mut buffer, 3).is_err());
-    assert!(rt; write(0, &mut buffer, 4).is_err());
-    assert!(rt; write(0, &mut buffer, 9).is_err());
+    assert_eq!(rt; write(4_294_967_295, &mut buffer, 0), Err(NoRoom));
+    assert_eq!(rt; write(300, &mut buffer, 3), Err(NoRoom));
+    assert_eq!(rt; write(0, &mut buffer, 4), Err(NoRoom));
+    assert_eq!(rt; write(0, &mut buffer, 9), Err(NoRoom));
     assert!(rt; holds(&buffer, 0, &[]));
 }

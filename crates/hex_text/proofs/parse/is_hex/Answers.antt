@@ -1,19 +1,14 @@
--- Each byte and each space leaves the question to what follows it.
-use Rattle.std.proofs.Common.{sym, arith}
-use Rattle.hex_text.proofs.Progress.{undecided_all, undecided_byte, undecided_other, undecided_space}
+-- The words are the parts between the spaces, and each is tested.
+use Rattle.std.proofs.Common.{◌==◌, rules, tests}
+use Rattle.std.proofs.lemmas.Iterator.Search.{all_from_yields_List}
+use Rattle.std.proofs.lemmas.Iterator.Splits.{YieldsList-from_slice_split}
+use Rattle.hex_text.specs.Characters.{space}
+use Rattle.hex_text.specs.Words.{is_word}
 use Rattle.hex_text.proofs.parse.is_hex.Goals as goal
 
-pub loop-at-preserved-in-Some : goal.loop-at-preserved-in-Some
-loop-at-preserved-in-Some c = undecided_byte c.loop-at.invariant _ (sym c.in-Some.ensures)
-
-pub loop-at-preserved : goal.loop-at-preserved
-loop-at-preserved c = undecided_space c.loop-at.invariant (omega arith) c.if-text-at-eq-SPACE.true
-
-pub returns-in-None-2 : goal.returns-in-None-2
-returns-in-None-2 c =
-    let refused = undecided_other c.loop-at.invariant (omega arith) c.if-text-at-eq-SPACE.false
-    (sym c.in-None.ensures)
-    in cc
-
 pub returns : goal.returns
-returns c = let all = undecided_all c.loop-at.invariant (omega arith) in cc
+returns c =
+    all_from_yields_List is_word _ _ _ c.all.ensures.ran
+    (YieldsList-from_slice_split _ (λ b. b == space) c.args.text.now
+    c.split.ensures.rest c.split.ensures.done c.split.ensures.closure (λ x b q k. search (rules, tests)))
+    (λ x b q k. search (rules, tests))

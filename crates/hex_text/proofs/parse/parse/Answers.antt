@@ -1,10 +1,21 @@
--- A text that is not hexadecimal stands for no bytes.
-use Rattle.std.proofs.Common.{◌≡◌, false, is_some, None, Some, Option, refl}
+-- A text stands for bytes where each of its words does, and then for those.
+use Rattle.std.proofs.Common.{is_some, Some, None, sym, ap, ◌∙◌}
+use Rattle.std.proofs.lemmas.Bool.{cond-true, cond-false}
+use Rattle.std.proofs.lemmas.Result.{err_from_is_err_and}
+use Rattle.hex_text.proofs.Words.{read_words}
 use Rattle.hex_text.proofs.parse.parse.Goals as goal
 
-none_from_not_some : {A : Type 0} (o : Option A) → is_some o ≡ false → o ≡ None
-none_from_not_some None h = refl
-none_from_not_some (Some a) h = cc
-
 pub returns-then-not-is_hex : goal.returns-then-not-is_hex
-returns-then-not-is_hex c = none_from_not_some _ (cc)
+returns-then-not-is_hex c =
+    read_words c.args.text.now ∙ cond-false _ _ None (sym c.is_hex.ensures ∙ c.if-not-is_hex.true)
+
+pub returns-in_err-bytes_of : goal.returns-in_err-bytes_of
+returns-in_err-bytes_of c =
+    let p = err_from_is_err_and c.from_residual.result c.from_residual.ensures.1
+    in let is = sym c.is_hex.ensures ∙ c.if-not-is_hex.false
+    in rw (p.1, p.2) (ap is_some (read_words c.args.text.now ∙ cond-true _ _ None is))
+
+pub returns : goal.returns
+returns c =
+    read_words c.args.text.now ∙ cond-true _ _ None (sym c.is_hex.ensures ∙ c.if-not-is_hex.false)
+    ∙ ap Some (sym c.in_ok-bytes_of.ensures)
