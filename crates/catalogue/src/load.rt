@@ -1,5 +1,5 @@
 //! Lists of records taken in, and given out again.
-ghost use Rattle.std.specs.Prelude.{◌≡◌, vec_len};
+ghost use Rattle.std.specs.Prelude.{◌≡◌, Some, None, vec_len, MatchResult};
 ghost use Rattle.catalogue.specs.Calls.{Loaded};
 ghost use Rattle.catalogue.specs.Listing.{listed_outcome};
 ghost use Rattle.catalogue.specs.Records.{first_invalid};
@@ -17,12 +17,12 @@ impl Listed {
     pub fn load(records: Vec<Record>) -> Result<Listed, Declined<Vec<Record>>>
         ensures { Loaded records result }
     {
-        match refused(records.as_slice()) {
-            Some(rejection) => Err(Declined {
+        match check(&records) {
+            Ok(()) => Ok(Listed { records }),
+            Err(rejection) => Err(Declined {
                 rejection,
                 given: records,
             }),
-            None => Ok(Listed { records }),
         }
     }
 
@@ -42,14 +42,18 @@ impl Listed {
     }
 }
 
-/// Why the records are refused; none where they are taken.
-fn refused(records: &[Record]) -> Option<Rejection>
-    ensures { result ≡ listed_outcome records.now }
+/// Accepts records that are a catalogue, or says why they are none.
+fn check(records: &[Record]) -> Result<(), Rejection>
+    ensures { MatchResult result (λ _. listed_outcome records.now ≡ None)
+        (λ r. listed_outcome records.now ≡ Some r) }
 {
     if records.len() > MOST_RECORDS {
-        return Some(Rejection::unplaced(Refusal::OverLimit));
+        return Err(Rejection::unplaced(Refusal::OverLimit));
     }
-    first_invalid(records).map(|place| Refusal::RecordInvalid.at(place))
+    match first_invalid(records) {
+        Some(place) => Err(Refusal::RecordInvalid.at(place)),
+        None => Ok(()),
+    }
 }
 
 /// The place of the first record that is not valid; none where all are.

@@ -1,7 +1,7 @@
 -- Where the records are not refused, none of them is invalid.
 use Rattle.std.proofs.Common.{◌≡◌, ◌+◌, ◌≤◌, Bool, true, false, cond, not, ◌&&◌, List, [], ◌∷◌, length, Some}
 use Rattle.std.proofs.Common.{None}
-use Rattle.std.proofs.Common.{sym, refl, subst, arith}
+use Rattle.std.proofs.Common.{refl, subst, arith}
 use Rattle.std.proofs.lemmas.Bool.{ltb-false}
 use Rattle.std.specs.List.{list_all, position_or_len}
 use Rattle.std.specs.Option.{option_map}
@@ -32,5 +32,5 @@ valid_from_none records e = all_from_none valid records (ltb-false _ _ (none_par
 
 pub invariant_of-result-clause-sound : goal.invariant_of-result-clause-sound
 invariant_of-result-clause-sound c =
-    subst (λ (rs : List Record). all_valid rs ≡ true) c.as_slice.ensures.value
-    (valid_from_none c.as_slice.result.now (sym c.in-None.ensures))
+    subst (λ (rs : List Record). all_valid rs ≡ true) c.deref.ensures.value
+    (valid_from_none c.deref.result.now c.in-Ok.ensures)
