@@ -16,6 +16,7 @@ mod run;
 pub mod selector;
 pub mod store;
 mod table;
+pub mod text;
 pub mod theorems;
 pub mod triple;
 pub mod union;

@@ -39,7 +39,7 @@ impl<'a, T: Element> Run<'a, T> {
     pub(crate) fn seek(&self, selector: Selector, start: Triple) -> Option<Triple>
         ensures { Sought (among (map (T.Element.placed self.now.property) self.now.items.now)) selector start result }
     {
-        let from = self.lower_bound(start.max(selector.floor()));
+        let from = self.lower_bound(start.max(selector.into()));
         self.items[from..]
             .iter()
             .map(|item| item.triple(self.property))
@@ -52,7 +52,7 @@ impl<'a, T: Element> Run<'a, T> {
     fn pass_over(&self, position: Position, selector: Selector, bound: u32) -> Option<u32>
         ensures { Leapt (among (map (T.Element.placed self.now.property) self.now.items.now)) position selector bound result }
     {
-        let from = self.lower_bound(selector.floor());
+        let from = self.lower_bound(selector.into());
         self.items[from..]
             .iter()
             .map(|item| item.triple(self.property))

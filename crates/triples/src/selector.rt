@@ -54,17 +54,6 @@ impl Selector {
         }
     }
 
-    /// The selector read as a triple: no triple before it matches.
-    pub(crate) fn floor(self) -> Triple
-        ensures { result ≡ floor self }
-    {
-        Triple {
-            subject: self.subject,
-            property: self.property,
-            object: self.object,
-        }
-    }
-
     /// Whether the triple is behind all those that match, as far as the leading entries tell.
     pub(crate) fn is_passed(self, triple: Triple) -> bool
         ensures { result ≡ passed self triple }
@@ -75,7 +64,7 @@ impl Selector {
             Selector { object: ANY, .. } => {
                 (self.subject, self.property) < (triple.subject, triple.property)
             }
-            _ => self.floor() < triple,
+            _ => Triple::from(self) < triple,
         }
     }
 
@@ -88,8 +77,7 @@ impl Selector {
         match position {
             Position::Subject => Some(Triple {
                 subject: bound,
-                property: ANY,
-                object: ANY,
+                ..ORIGIN
             }),
             Position::Property if self.subject != ANY => Some(Triple {
                 subject: self.subject,
@@ -97,12 +85,29 @@ impl Selector {
                 object: ANY,
             }),
             Position::Object if self.subject != ANY && self.property != ANY => Some(Triple {
-                subject: self.subject,
-                property: self.property,
                 object: bound,
+                ..Triple::from(self)
             }),
             Position::Property => (self.property != ANY).then_some(ORIGIN),
             Position::Object => (self.object != ANY).then_some(ORIGIN),
+        }
+    }
+}
+
+/// The selector read as a triple: no triple before it matches.
+impl From<Selector> for Triple {
+    ghost from_gives = { λ s t. t ≡ floor s };
+
+    fn from(selector: Selector) -> Triple {
+        let Selector {
+            subject,
+            property,
+            object,
+        } = selector;
+        Triple {
+            subject,
+            property,
+            object,
         }
     }
 }

@@ -27,5 +27,5 @@ returns g c =
     subst (Leapt _ c.args.position c.args.selector c.args.bound) (sym least ∙ option_map_id c.min.result)
     (leapt_reachable c.args.position c.args.selector c.args.bound triple run.items.now run.ordered
     c.lower_bound-from.result
-    (subst (λ t. Split triple run.items.now t c.lower_bound-from.result) c.floor.ensures
+    (subst (λ t. Split triple run.items.now t c.lower_bound-from.result) c.into.ensures
     c.lower_bound-from.ensures))

@@ -26,6 +26,6 @@ returns g c =
     subst (Sought _ c.args.selector c.args.start) (sym found ∙ option_map_id c.find.result)
     (sought_reachable triple run.items.now c.args.selector c.args.start c.lower_bound-from.result
     (subst (λ t. Split triple run.items.now t c.lower_bound-from.result)
-    (c.max.ensures ∙ max_later c.args.start c.floor.result ∙ ap (later c.args.start) c.floor.ensures)
+    (c.max.ensures ∙ max_later c.args.start c.into.result ∙ ap (later c.args.start) c.into.ensures)
     c.lower_bound-from.ensures)
     run.ordered)
