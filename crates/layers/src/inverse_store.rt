@@ -8,7 +8,7 @@ use triples::position::Position;
 use triples::selector::Selector;
 use triples::store::Store;
 use triples::triple::Triple;
-use triples::union::{earlier_of, lesser_of};
+use triples::union::least_of;
 
 /// The triples of the store below and the turned ones, under the same top.
 impl<S: Store> Store for Inverse<S> {
@@ -24,12 +24,12 @@ impl<S: Store> Store for Inverse<S> {
     fn seek(&mut self, selector: Selector, start: Triple) -> Option<Triple> {
         let held = self.below.seek(selector, start);
         let turned = seek_turned(&mut self.below, self.turn, selector, start);
-        earlier_of(held, turned)
+        least_of(held, turned)
     }
 
     fn leap(&mut self, position: Position, selector: Selector, bound: u32) -> Option<u32> {
         let held = self.below.leap(position, selector, bound);
         let turned = leap_turned(&mut self.below, self.turn, position, selector, bound);
-        lesser_of(held, turned)
+        least_of(held, turned)
     }
 }

@@ -1,20 +1,17 @@
 -- Laws of directories. Assumes nothing.
-use Rattle.std.proofs.Common.{◌≡◌, ℕ, suc, ◌+◌, ◌<◌, ◌≤◌, true, false, ◌&&◌, ltb, leb, List, length, get_or}
-use Rattle.std.proofs.Common.{sym, ap, subst, ⊎_elim, arith}
-use Rattle.std.proofs.lemmas.List.{get_or_default}
+use Rattle.std.proofs.Common.{◌≡◌, ℕ, zero, suc, ◌+◌, ◌-◌, ◌<◌, ◌≤◌, true, false, ◌&&◌, ltb, leb, List, length}
+use Rattle.std.proofs.Common.{HoldsAt, Option, Some, None, MatchOption, Less, Equal, Greater}
+use Rattle.std.proofs.Common.{ap, subst, ⊎_elim, arith}
+use Rattle.std.specs.Ordering.{nat_cmp, ordering_index}
+use Rattle.std.specs.List.Sorted.{IsNonDecreasingBy, IsPartitionPoint}
+use Rattle.std.proofs.lemmas.List.Sorted.{IsNonDecreasingBy-from_default}
 use Rattle.std.proofs.lemmas.Bool.{and_parts, leb-true, ltb-true, cases_eq}
 use Rattle.std.proofs.lemmas.Bool.Decides.{nat_tests}
 use Rattle.triples.specs.declared.entry.DirectoryEntry.{DirectoryEntry}
-use Rattle.triples.specs.declared.triple.Triple.{Triple}
-use Rattle.triples.specs.Order.{before}
 use Rattle.triples.specs.Selectors.{accepts}
 use Rattle.triples.specs.Meaning.{term}
-use Rattle.triples.specs.Tables.{Ordered}
-use Rattle.triples.specs.Finding.{Split}
-use Rattle.triples.specs.Directory.{no_entry, property_of, first_of, follows, EntriesGood}
-use Rattle.triples.specs.Directory.{entry_triple}
+use Rattle.triples.specs.Directory.{no_entry, property_of, first_of, follows, entry_good, EntriesGood, FirstBroken}
 use Rattle.triples.specs.Spans.{Spanned}
-use Rattle.triples.proofs.Finding.{ordered_far}
 
 -- entries in order
 
@@ -43,75 +40,66 @@ module _ (top : ℕ) (dir : List DirectoryEntry) (pairs : ℕ) (good : EntriesGo
   first_next i h = subst (λ k. first_of dir i ≤ first_of dir k) (omega arith)
       (next_parts i (omega (arith, h))).1
 
-  pub directory_ordered : Ordered entry_triple dir
-  directory_ordered k d h =
-      let low = get_or_default dir k d no_entry (omega (arith, h)) in
-      let high = get_or_default dir (k + 1) d no_entry h in
-      let less = subst (λ n. property_of dir k < property_of dir n) (omega arith)
-      (next_parts k (omega (arith, h))).0 in
-      entries_before (get_or dir k d) (get_or dir (k + 1) d)
-      (subst (λ n. n < (get_or dir (k + 1) d).property) (ap (λ e. e.property) (sym low))
-      (subst (λ n. property_of dir k < n) (ap (λ e. e.property) (sym high)) less))
-    where
-      entries_before : (x y : DirectoryEntry) → x.property < y.property
-          → before (entry_triple x) (entry_triple y) ≡ true
-      entries_before x y h = grind (arith, nat_tests)
+  -- properties ascend
+  property_next : (i n : ℕ) → i + suc n < length dir → property_of dir i < property_of dir (i + suc n)
+  property_next i zero h =
+      subst (λ k. property_of dir i < property_of dir k) (omega arith) (next_parts i (omega (arith, h))).0
+  property_next i (suc n) h =
+      let low = property_next i n (omega (arith, h)) in
+      let high = (next_parts (i + suc n) (omega (arith, h))).0 in
+      let next : suc (i + suc n) ≡ i + suc (suc n) = omega arith in
+      subst (λ k. property_of dir i < property_of dir k) next (omega (arith, low, high))
 
--- spans
+  pub property_later : (i k : ℕ) → i < k → k < length dir → property_of dir i < property_of dir k
+  property_later i k h l =
+      subst (λ j. property_of dir i < property_of dir j) (omega (arith, h))
+      (property_next i (k - i - 1) (omega (arith, h, l)))
 
-abbrev wanted_triple : ℕ → Triple
-wanted_triple n = record { subject = 0; property = n; object = 0 }
+  -- the comparisons with a property rise
+  rising : (wanted : ℕ) → IsNonDecreasingBy (λ e. ordering_index (nat_cmp e.property wanted)) dir
+  rising wanted = IsNonDecreasingBy-from_default (λ e. ordering_index (nat_cmp e.property wanted)) dir no_entry
+      (λ i j h l. ⊎_elim
+      (λ e. let same = ap (λ k. ordering_index (nat_cmp (property_of dir k) wanted)) e in omega (arith, same))
+      (λ ne. let less = property_later i j (omega (arith, h, ne)) l in grind (arith, nat_tests))
+      (cases_eq i j))
 
-module _ (dir : List DirectoryEntry) (ordered : Ordered entry_triple dir) (wanted i : ℕ)
-    (known : wanted ≡ 0 → ⊥)
-    (split : Split entry_triple dir (wanted_triple wanted) i) where
-  refused_low : (x : DirectoryEntry) → before (entry_triple x) (wanted_triple wanted) ≡ true
-      → accepts wanted x.property ≡ false
-  refused_low x h = grind (arith, nat_tests)
+  -- spans
 
-  refused_high : (x : DirectoryEntry) → before (entry_triple x) (wanted_triple wanted) ≡ false
-      → (x.property ≡ wanted → ⊥) → accepts wanted x.property ≡ false
-  refused_high x h n = grind (arith, nat_tests)
+  module _ (wanted i : ℕ) (known : wanted ≡ 0 → ⊥) where
+    pub spanned_found : i < length dir → HoldsAt (λ e. nat_cmp e.property wanted ≡ Equal) dir i
+        → Spanned dir wanted (record { start = i; end = i + 1 })
+    spanned_found h e = record {
+      upward = omega arith;
+      inside = omega (arith, h);
+      before = λ k l. let less = property_later k i l h in let same = e no_entry in grind (arith, nat_tests);
+      within = λ k low high. let same = e no_entry in
+          let here : i ≡ k = omega (arith, low, high) in
+          subst (λ j. accepts wanted (property_of dir j) ≡ true) here (grind (arith, nat_tests));
+      behind = λ k low high. let less = property_later i k (omega (arith, low)) high in
+          let same = e no_entry in grind (arith, nat_tests);
+    }
 
-  refused_behind : (x y : DirectoryEntry) → x.property ≡ wanted
-      → before (entry_triple x) (entry_triple y) ≡ true
-      → accepts wanted y.property ≡ false
-  refused_behind x y e h = grind (arith, nat_tests)
+    pub spanned_missing : i ≤ length dir
+        → (IsNonDecreasingBy (λ e. ordering_index (nat_cmp e.property wanted)) dir
+        → IsPartitionPoint (λ e. nat_cmp e.property wanted ≡ Less) (λ e. nat_cmp e.property wanted ≡ Greater) dir i)
+        → Spanned dir wanted (record { start = i; end = i })
+    spanned_missing h parted = record {
+      upward = omega arith;
+      inside = h;
+      before = λ k l. let less = (parted (rising wanted)).0 k no_entry (omega arith) l in grind (arith, nat_tests);
+      within = λ k low high. absurd (omega (arith, low, high));
+      behind = λ k low high. let more = (parted (rising wanted)).1 k no_entry low high in grind (arith, nat_tests);
+    }
 
-  pub spanned_found : i < length dir → property_of dir i ≡ wanted
-      → Spanned dir wanted (record { from = i; to = i + 1 })
-  spanned_found h e = record {
-    upward = omega arith;
-    inside = omega (arith, h);
-    before = λ k l. refused_low (get_or dir k no_entry) (split.below k no_entry l);
-    within = λ k low high. subst (λ n. accepts wanted (property_of dir n) ≡ true) (omega (arith, low, high))
-        (subst (λ n. accepts wanted n ≡ true) (sym e) accepts_itself);
-    behind = λ k low high. refused_behind (get_or dir i no_entry) (get_or dir k no_entry) e
-        (ordered_far entry_triple dir ordered i k no_entry (omega (arith, low)) high);
-  }
-    where
-      accepts_itself : accepts wanted wanted ≡ true
-      accepts_itself = grind (arith, nat_tests)
-
-  pub spanned_missing : (i < length dir → property_of dir i ≡ wanted → ⊥)
-      → Spanned dir wanted (record { from = i; to = i })
-  spanned_missing apart = record {
-    upward = omega arith;
-    inside = split.inside;
-    before = λ k l. refused_low (get_or dir k no_entry) (split.below k no_entry l);
-    within = λ k low high. absurd (omega (arith, low, high));
-    behind = λ k low high. ⊎_elim
-        (λ e. refused_high (get_or dir k no_entry) (split.behind k no_entry low high)
-        (λ f. apart (omega (arith, e, high)) (subst (λ n. property_of dir n ≡ wanted) e f)))
-        (λ ne. refused_after k (omega (arith, low, ne)) high)
-        (cases_eq k i);
-  }
-    where
-      refused_after : (k : ℕ) → i < k → k < length dir → accepts wanted (property_of dir k) ≡ false
-      refused_after k l high = behind_split (get_or dir i no_entry) (get_or dir k no_entry)
-          (split.behind i no_entry (omega arith) (omega (arith, l, high)))
-          (ordered_far entry_triple dir ordered i k no_entry l high)
-        where
-          behind_split : (x y : DirectoryEntry) → before (entry_triple x) (wanted_triple wanted) ≡ false
-              → before (entry_triple x) (entry_triple y) ≡ true → accepts wanted y.property ≡ false
-          behind_split x y h k = grind (arith, nat_tests)
+-- the first broken entry
+pub broken_found : (top : ℕ) (dir : List DirectoryEntry) (pairs : ℕ) (r : Option ℕ)
+    → MatchOption r ((k : ℕ) → 0 ≤ k → k < length dir → entry_good top dir pairs k ≡ true)
+    (λ i. (0 ≤ i) × (i < length dir) × (entry_good top dir pairs i ≡ false)
+    × ((k : ℕ) → 0 ≤ k → k < i → entry_good top dir pairs k ≡ true))
+    → MatchOption r (EntriesGood top dir pairs) (FirstBroken top dir pairs)
+broken_found top dir pairs None f = λ i h. f i (omega arith) h
+broken_found top dir pairs (Some i) f = record {
+  inside = f.1;
+  bad = f.2;
+  earlier = λ k h. f.3 k (omega arith) h;
+}

@@ -1,6 +1,11 @@
 -- Laws of searching an ordered list. Assumes nothing.
-use Rattle.std.proofs.Common.{◌≡◌, ℕ, zero, suc, ◌+◌, ◌-◌, ◌<◌, ◌≤◌, true, false, List, map, length, get_or}
-use Rattle.std.proofs.Common.{Some, None, Option, subst, subst₂, ⊎_elim, arith}
+use Rattle.std.proofs.Common.{◌≡◌, ℕ, zero, suc, ◌+◌, ◌-◌, ◌<◌, ◌≤◌, true, false, cond, not, List, [], ◌∷◌}
+use Rattle.std.proofs.Common.{map, length, drop, get_or, Some, None, Option, sym, refl, ap, ◌∙◌, subst, subst₂}
+use Rattle.std.proofs.Common.{⊎_elim, arith}
+use Rattle.std.specs.Prelude.{find, take_while}
+use Rattle.std.proofs.lemmas.List.{length-drop, get_or-drop}
+use Rattle.std.proofs.lemmas.List.Sums.{take_while-cons}
+use Rattle.std.specs.List.Sorted.{IsPartitionedBy, IsPartitionPoint}
 use Rattle.std.proofs.lemmas.Bool.{both_ways, cases_Bool, cases_eq, cases_lt, cond_both, cond-true}
 use Rattle.std.proofs.lemmas.Bool.{cond-false}
 use Rattle.triples.specs.declared.selector.Selector.{Selector}
@@ -10,19 +15,11 @@ use Rattle.triples.specs.Selectors.{matches, floor, passed}
 use Rattle.triples.specs.Meaning.{among}
 use Rattle.triples.specs.Seeks.{Candidate, Sought}
 use Rattle.triples.specs.Tables.{Ordered}
-use Rattle.triples.specs.Finding.{Split, Silent, Met, later}
-use Rattle.triples.proofs.Lists.{read_at, first_of}
+use Rattle.triples.specs.Finding.{Split, Silent, Met, later, reachable}
+use Rattle.triples.proofs.Lists.{first_of}
 use Rattle.triples.proofs.Selectors.{floor_reached, passed_none}
 use Rattle.triples.proofs.Meaning.{Place, among_place, at_among}
 use Rattle.triples.proofs.Order.{before_itself, before_trans, upto_trans, upto_before}
-
--- the elements before low stand for triples before the start, those from high on do not
-pub record Around {X : Type 0} (triple : X → Triple) (xs : List X) (start : Triple)
-    (low high : ℕ) : Type 0 where
-  pub crossed : low ≤ high
-  pub inside : high ≤ length xs
-  pub below : (k : ℕ) (d : X) → k < low → before (triple (get_or xs k d)) start ≡ true
-  pub behind : (k : ℕ) (d : X) → high ≤ k → k < length xs → before (triple (get_or xs k d)) start ≡ false
 
 module _ {X : Type 0} (triple : X → Triple) (xs : List X) (ordered : Ordered triple xs) where
   -- an element is before each one behind it
@@ -52,32 +49,32 @@ module _ {X : Type 0} (triple : X → Triple) (xs : List X) (ordered : Ordered t
       (ordered_far i k d (omega (arith, h, ne)) n))
       (cases_eq k i)
 
-  -- lower bound
+  -- the elements from a place on ascend too
+  pub ordered_dropped : (from : ℕ) → Ordered triple (drop from xs)
+  ordered_dropped from k d h =
+      let len = length-drop from xs in
+      let next : from + k + 1 ≡ from + (k + 1) = omega arith in
+      subst₂ (λ x y. before (triple x) (triple y) ≡ true) (sym (get_or-drop from xs k d))
+      (ap (λ j. get_or xs j d) next ∙ sym (get_or-drop from xs (k + 1) d))
+      (ordered (from + k) d (omega (arith, h, len)))
 
-  pub around_below : (start : Triple) (low high middle : ℕ) → Around triple xs start low high → low ≤ middle
-      → middle < high → ((d : X) → before (triple (get_or xs middle d)) start ≡ true)
-      → Around triple xs start (middle + 1) high
-  around_below start low high middle a h n here = record {
-    crossed = omega (arith, n);
-    inside = a.inside;
-    below = λ k d m. ⊎_elim
-        (λ e. subst (λ j. before (triple (get_or xs j d)) start ≡ true) (omega (arith, e)) (here d))
-        (λ ne. before_trans (triple (get_or xs k d)) (triple (get_or xs middle d)) start
-        (ordered_far k middle d (omega (arith, m, ne)) (omega (arith, n, a.inside))) (here d))
-        (cases_eq k middle);
-    behind = a.behind;
-  }
+  -- the elements before a start come first
+  pub partitioned : (start : Triple) → IsPartitionedBy (λ x. before (triple x) start) xs
+  partitioned start i k d h n e =
+      ⊎_elim (λ same. subst (λ j. before (triple (get_or xs j d)) start ≡ true) (sym same) e)
+      (λ ne. before_trans (triple (get_or xs i d)) (triple (get_or xs k d)) start
+      (ordered_far i k d (omega (arith, h, ne)) n) e)
+      (cases_eq i k)
 
-  pub around_behind : (start : Triple) (low high middle : ℕ) → Around triple xs start low high → low ≤ middle
-      → middle < high → ((d : X) → before (triple (get_or xs middle d)) start ≡ false)
-      → Around triple xs start low middle
-  around_behind start low high middle a h n here = record {
-    crossed = h;
-    inside = omega (arith, n, a.inside);
-    below = a.below;
-    behind = λ k d m len. upto_trans start (triple (get_or xs middle d)) (triple (get_or xs k d)) (here d)
-        (ordered_upto middle k d m len);
-  }
+-- the place up to which an element is before the start splits the list
+pub split_point : {X : Type 0} (triple : X → Triple) (xs : List X) (start : Triple) (i : ℕ) → i ≤ length xs
+    → IsPartitionPoint (λ x. before (triple x) start ≡ true) (λ x. before (triple x) start ≡ false) xs i
+    → Split triple xs start i
+split_point triple xs start i h p = record {
+  inside = h;
+  below = λ k d l. p.0 k d (omega arith) l;
+  behind = λ k d l m. p.1 k d l m;
+}
 
 -- seek
 
@@ -102,25 +99,94 @@ later_start s start t h =
     (λ e. subst (λ x. before t x ≡ false) (cond-false (before start (floor s)) (floor s) start e) h)
     (cases_Bool (before start (floor s)))
 
-module _ {X : Type 0} (triple : X → Triple) (xs : List X) (s : Selector) where
-  pub silent_more : (from n : ℕ) (x : X) → n < length xs → x ≡ get_or xs n x → matches s (triple x) ≡ false
-      → Silent triple xs s from n → Silent triple xs s from (n + 1)
-  silent_more from n x l e unlike m k d h len =
+-- the first triple that matches
+
+module _ {X : Type 0} (triple : X → Triple) (s : Selector) where
+  reach : List Triple → List Triple
+  reach ts = take_while (λ t. not (passed s t)) ts
+
+  met_head : (x : X) (xs : List X) → matches s (triple x) ≡ true → Met triple (x ∷ xs) s 0 (Some (triple x))
+  met_head x xs fit = record {
+    at = 0;
+    behind = omega arith;
+    inside = omega arith;
+    is = λ d. refl;
+    fit = fit;
+    silent = λ k d low high. absurd (omega (arith, high));
+  }
+
+  silent_next : (x : X) (xs : List X) (n : ℕ) → matches s (triple x) ≡ false → Silent triple xs s 0 n
+      → Silent triple (x ∷ xs) s 0 (suc n)
+  silent_next x xs n unlike m zero d low high = unlike
+  silent_next x xs n unlike m (suc k) d low high = m k d (omega arith) (omega (arith, high))
+
+  met_next : (x : X) (xs : List X) → matches s (triple x) ≡ false → (r : Option Triple) → Met triple xs s 0 r
+      → Met triple (x ∷ xs) s 0 r
+  met_next x xs unlike None m = silent_next x xs (length xs) unlike m
+  met_next x xs unlike (Some t) m = record {
+    at = suc m.at;
+    behind = omega arith;
+    inside = omega (arith, m.inside);
+    is = m.is;
+    fit = m.fit;
+    silent = silent_next x xs m.at unlike m.silent;
+  }
+
+  met_first : (xs : List X) → Ordered triple xs → Met triple xs s 0 (find (matches s) (reach (map triple xs)))
+  unfolding reach
+  met_first [] ordered = λ k d low high. absurd (omega (arith, high))
+  met_first (x ∷ xs) ordered =
+      let next = take_while-cons (λ t. not (passed s t)) (triple x) (map triple xs) in
+      let found : List Triple → Option Triple = λ ts. find (matches s) ts in
+      let after : Ordered triple xs = λ k d l.
+      let next : suc k + 1 ≡ suc (k + 1) = omega arith in
+      subst (λ j. before (triple (get_or xs k d)) (triple (get_or (x ∷ xs) j d)) ≡ true) next
+      (ordered (suc k) d (omega (arith, l))) in
       ⊎_elim
-      (λ i. subst (λ j. matches s (triple (get_or xs j d)) ≡ false) (omega (arith, i))
-      (read_at (λ y. matches s (triple y) ≡ false) xs n x l e unlike d))
-      (λ ne. m k d h (omega (arith, len, ne)))
-      (cases_eq k n)
+      (λ p. subst (λ ts. Met triple (x ∷ xs) s 0 (found ts))
+      (sym (next ∙ ap (λ b. cond (not b) (triple x ∷ reach (map triple xs)) []) p))
+      (λ k d low high. passed_none s (triple x) (triple (get_or (x ∷ xs) k d)) p
+      (ordered_upto triple (x ∷ xs) ordered 0 k d (omega arith) high)))
+      (λ p. subst (λ ts. Met triple (x ∷ xs) s 0 (found ts))
+      (sym (next ∙ ap (λ b. cond (not b) (triple x ∷ reach (map triple xs)) []) p))
+      (⊎_elim
+      (λ m. subst (Met triple (x ∷ xs) s 0)
+      (sym (cond-true (matches s (triple x)) (Some (triple x)) (found (reach (map triple xs))) m))
+      (met_head x xs m))
+      (λ m. subst (Met triple (x ∷ xs) s 0)
+      (sym (cond-false (matches s (triple x)) (Some (triple x)) (found (reach (map triple xs))) m))
+      (met_next x xs m (found (reach (map triple xs))) (met_first xs after)))
+      (cases_Bool (matches s (triple x)))))
+      (cases_Bool (passed s (triple x)))
 
-  pub silent_passed : Ordered triple xs → (from n : ℕ) (x : X) → n < length xs → x ≡ get_or xs n x
-      → passed s (triple x) ≡ true → Silent triple xs s from n → Silent triple xs s from (length xs)
-  silent_passed ordered from n x l e past m k d h len =
-      ⊎_elim (m k d h)
-      (λ high. passed_none s (triple (get_or xs n d)) (triple (get_or xs k d))
-      (read_at (λ y. passed s (triple y) ≡ true) xs n x l e past d)
-      (ordered_upto triple xs ordered n k d high len))
-      (cases_lt k n)
+  met_dropped : (xs : List X) (from : ℕ) → from ≤ length xs → (r : Option Triple)
+      → Met triple (drop from xs) s 0 r → Met triple xs s from r
+  met_dropped xs from h None m = λ k d low high.
+      let len = length-drop from xs in
+      subst (λ j. matches s (triple (get_or xs j d)) ≡ false) (omega (arith, low))
+      (subst (λ x. matches s (triple x) ≡ false) (get_or-drop from xs (k - from) d)
+      (m (k - from) d (omega arith) (omega (arith, low, high, len))))
+  met_dropped xs from h (Some t) m = record {
+    at = from + m.at;
+    behind = omega arith;
+    inside = let inside = m.inside in
+        let len = length-drop from xs in omega (arith, inside, len);
+    is = λ d. subst (λ x. triple x ≡ t) (get_or-drop from xs m.at d) (m.is d);
+    fit = m.fit;
+    silent = λ k d low high.
+        subst (λ j. matches s (triple (get_or xs j d)) ≡ false) (omega (arith, low))
+        (subst (λ x. matches s (triple x) ≡ false) (get_or-drop from xs (k - from) d)
+        (m.silent (k - from) d (omega arith) (omega (arith, low, high))));
+  }
 
+  pub met_reachable : (xs : List X) → Ordered triple xs → (from : ℕ) → from ≤ length xs
+      → Met triple xs s from (find (matches s) (reachable triple xs s from))
+  unfolding reach
+  met_reachable xs ordered from h =
+      met_dropped xs from h (find (matches s) (reachable triple xs s from))
+      (met_first (drop from xs) (ordered_dropped triple xs ordered from))
+
+module _ {X : Type 0} (triple : X → Triple) (xs : List X) (s : Selector) where
   module _ (start : Triple) (from : ℕ) (split : Split triple xs (later start (floor s)) from) where
     -- a candidate stands behind the split
     candidate_behind : (u : Triple) → Candidate (among (map triple xs)) s start u → (p : Place triple xs u)
@@ -134,7 +200,7 @@ module _ {X : Type 0} (triple : X → Triple) (xs : List X) (s : Selector) where
         (λ high. high)
         (cases_lt p.at from)
 
-    pub sought_from_met : Ordered triple xs → (r : Option Triple) → Met triple xs s from r
+    sought_from_met : Ordered triple xs → (r : Option Triple) → Met triple xs s from r
         → Sought (among (map triple xs)) s start r
     sought_from_met ordered None silent = λ u c.
         let p = among_place triple xs u c.held in
@@ -165,3 +231,8 @@ module _ {X : Type 0} (triple : X → Triple) (xs : List X) (s : Selector) where
             let d = first_of xs i l in
             later_start s start t
             (subst (λ u. before u (later start (floor s)) ≡ false) (is d) (split.behind i d h l))
+
+    pub sought_reachable : Ordered triple xs
+        → Sought (among (map triple xs)) s start (find (matches s) (reachable triple xs s from))
+    sought_reachable ordered = sought_from_met ordered (find (matches s) (reachable triple xs s from))
+        (met_reachable triple s xs ordered from split.inside)

@@ -1,8 +1,18 @@
 -- Answers about sets of triples that are put together from the answers about their parts. Assumes nothing.
 -- Joins s Q best     where Q says what is answered for a set, best of two answers is the one for both sets
-use Rattle.std.proofs.Common.{◌≡◌, ℕ, zero, suc, ◌+◌, ◌-◌, ◌<◌, ◌≤◌, Bool, true, false, List, [], ◌++◌, map}
-use Rattle.std.proofs.Common.{length, Some, None, Option, sym, refl, ap, subst, arith}
+use Rattle.std.proofs.Common.{◌≡◌, ℕ, zero, suc, ◌+◌, ◌-◌, ◌<◌, ◌≤◌, Bool, true, false, List, [], ◌∷◌, ◌++◌, map, get_or}
+use Rattle.std.proofs.Common.{length, Some, None, Option, sym, refl, ap, ◌∙◌, subst, subst₂, arith}
 use mathlib.Core.Path.{fun_ext}
+use denote.Param.Members.{Mut}
+use Rattle.std.specs.Fn.{Called}
+use Rattle.std.specs.Iterator.{FoldsItems}
+use Rattle.std.specs.List.{range_with_len}
+use Rattle.std.proofs.iter.Yields.{nat_range_steps}
+use Rattle.std.specs.declared.ops.Range.{Range}
+use Rattle.std.proofs.lemmas.List.{append-nil, append_assoc, length-append}
+use Rattle.std.proofs.lemmas.List.FromFn.{length-range_with_len}
+use Rattle.std.proofs.lemmas.Fn.{fold_over}
+use Rattle.std.proofs.lemmas.Iterator.{YieldsList-from_range}
 use Rattle.std.proofs.lemmas.Bool.{false≢true, both_ways}
 use Rattle.std.proofs.lemmas.Bool.Decides.{nat_tests}
 use Rattle.triples.specs.declared.entry.DirectoryEntry.{DirectoryEntry}
@@ -60,6 +70,23 @@ select_property s t n e h = grind (arith, nat_tests)
 property_selected : (s : Selector) (t : Triple) (n : ℕ) → t.property ≡ n → accepts s.property n ≡ true
     → matches (select s Property n) t ≡ true → matches s t ≡ true
 property_selected s t n e a h = grind (arith, nat_tests)
+
+-- the next number of those that count up
+
+abbrev behind_first : List ℕ → List ℕ
+behind_first [] = []
+behind_first (n ∷ ns) = ns
+
+next_number : (ys zs : List ℕ) (i from n : ℕ) → ys ++ i ∷ zs ≡ range_with_len from n
+    → (i ≡ from + length ys) × (length ys < n)
+next_number [] zs i from zero e = let len = ap length e in absurd (omega (arith, len))
+next_number [] zs i from (suc n) e =
+    let first : i ≡ from = ap (λ ns. get_or ns 0 i) e in (omega (arith, first), omega arith)
+next_number (y ∷ ys) zs i from zero e = let len = ap length e in absurd (omega (arith, len))
+next_number (y ∷ ys) zs i from (suc n) e =
+    let later = next_number ys zs i (from + 1) n (ap behind_first e) in
+    let is = later.0 in
+    let inside = later.1 in (omega (arith, is), omega (arith, inside))
 
 module _ {R : Type 0} {s : Selector} {Q : (Triple → Bool) → Option R → Type 0}
     {best : Option R → Option R → Option R} (j : Joins s Q best) where
@@ -123,6 +150,60 @@ module _ {R : Type 0} {s : Selector} {Q : (Triple → Bool) → Option R → Typ
         let next : suc n ≡ n + 1 = omega arith in
         subst (λ m. Q (among (triples_upto dir pairs m)) (best a b)) next
         (join_append (triples_upto dir pairs n) (section_triples dir pairs n) a b f g)
+
+    -- the entries of a span, taken one after the other by a fold
+
+    module _ {F : Type 0} (g : Mut F (Option R × (ℕ × Unit {0})) (Option R)) (f : F) (from : ℕ) where
+      abbrev Begun : List ℕ → List ℕ → Option R → Type 0
+      Begun all ys a = (zs : List ℕ) → ys ++ zs ≡ all → Q (among (triples_upto dir pairs (from + length ys))) a
+
+      pub join_fold : (Found : ℕ → Option R → Type 0) (to : ℕ) → from ≤ to → to ≤ length dir
+          → ((i : ℕ) → i < from → accepts s.property (property_of dir i) ≡ false)
+          → ((i : ℕ) → to ≤ i → i < length dir → accepts s.property (property_of dir i) ≡ false)
+          → ((i : ℕ) (a b : Option R) (f' : F) → Called g f (a, (i, tt)) b f' → f' ≡ f)
+          → ((i : ℕ) (a b : Option R) (f' : F) → Called g f (a, (i, tt)) b f'
+          → (found : Option R) × Found i found × (b ≡ best a found))
+          → ((i : ℕ) → from ≤ i → i < to → (found : Option R) → Found i found
+          → Q (among (section_triples dir pairs i)) found)
+          → (span : Range ℕ) → span ≡ record { start = from; end = to } → (r : Option R)
+          → FoldsItems nat_range_steps g span f None r → Q (among (table_triples dir pairs)) r
+      join_fold Found to up inside before behind keeps step known span is r folds =
+          join_all to r inside behind
+          (subst (λ k. Q (among (triples_upto dir pairs k)) r) end
+          (fold_over nat_range_steps (λ i. i) g (Begun all) f more span all None r
+          (YieldsList-from_range from to (to - from) is refl).runs begun folds [] (append-nil all)))
+        where
+          all : List ℕ
+          all = range_with_len from (to - from)
+
+          len : length all ≡ to - from
+          len = length-range_with_len from (to - from)
+
+          end : from + length all ≡ to
+          end = omega (arith, up, len)
+
+          begun : Begun all [] None
+          begun zs e =
+              let none : from ≡ from + 0 = omega arith in
+              subst (λ k. Q (among (triples_upto dir pairs k)) None) none (join_before from before)
+
+          more : (ys : List ℕ) (a : Option R) (i : ℕ) (b : Option R) (f' : F) → Begun all ys a
+              → Called g f (a, (i, tt)) b f' → Begun all (ys ++ i ∷ []) b × (f' ≡ f)
+          more ys a i b f' j k = (
+            λ zs e.
+                let split : ys ++ (i ∷ zs) ≡ all = sym (append_assoc ys (i ∷ []) zs) ∙ e in
+                let next = next_number ys zs i from (to - from) split in
+                let is = next.0 in
+                let before_end = next.1 in
+                let found = step i a b f' k in
+                let here = known i (omega (arith, is)) (omega (arith, is, before_end, up)) found.0 found.1 in
+                let long = length-append ys (i ∷ []) in
+                let one_more : from + length ys + 1 ≡ from + length (ys ++ i ∷ []) = omega (arith, long) in
+                subst₂ (λ k x. Q (among (triples_upto dir pairs k)) x) one_more (sym found.2)
+                (join_more (from + length ys) a found.0 (j (i ∷ zs) split)
+                (subst (λ k. Q (among (section_triples dir pairs k)) found.0) is here)),
+            keeps i a b f' k,
+          )
 
 -- a selector with the property of all triples there
 

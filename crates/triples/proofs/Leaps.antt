@@ -1,9 +1,16 @@
 -- Laws of leaping over an ordered list. Assumes nothing.
-use Rattle.std.proofs.Common.{◌≡◌, ℕ, ◌+◌, ◌<◌, ◌≤◌, Bool, true, false, ◌||◌, leb, List, [], ◌∷◌, ◌++◌, map}
+use Rattle.std.specs.List.{fold, reduce, filter_map, cons_option, prefix_len}
+use Rattle.std.proofs.lemmas.List.{length-map, get_or-map, take-map}
+use Rattle.std.proofs.lemmas.List.Sums.{prefix_len_stops}
+use Rattle.std.proofs.lemmas.Bool.{not-false}
+use Rattle.std.proofs.lemmas.Bool.Decides.{nat_tests}
+use Rattle.triples.proofs.Selectors.{passed_none}
+use Rattle.triples.proofs.Finding.{ordered_upto, ordered_dropped}
+use Rattle.std.proofs.Common.{min, not, ◌≡◌, ℕ, ◌+◌, ◌<◌, Bool, true, false, ◌||◌, leb, List, [], ◌∷◌, ◌++◌, map}
 use Rattle.std.proofs.Common.{length, get_or, take, drop, Some, None, Option, sym, refl, ap, ◌∙◌, subst}
 use Rattle.std.proofs.Common.{⊎_elim, arith}
 use mathlib.Core.Path.{fun_ext}
-use Rattle.std.proofs.lemmas.List.{map_more, take_all, take-append-drop, map-append, get_or-take, get_or-drop}
+use Rattle.std.proofs.lemmas.List.{take-append-drop, map-append, get_or-take, get_or-drop}
 use Rattle.std.proofs.lemmas.List.{length-take, length-drop}
 use Rattle.std.proofs.lemmas.Bool.{both_ways, cases_Bool, leb-true, leb-false, cond-true, cond-false}
 use Rattle.std.proofs.lemmas.Bool.{or_cases}
@@ -11,11 +18,12 @@ use Rattle.triples.specs.declared.position.Position.{Position}
 use Rattle.triples.specs.declared.selector.Selector.{Selector}
 use Rattle.triples.specs.declared.triple.Triple.{Triple}
 use Rattle.triples.specs.Order.{before, same, value_at, number_from}
-use Rattle.triples.specs.Selectors.{matches, floor}
+use Rattle.triples.specs.Selectors.{matches, floor, passed}
 use Rattle.triples.specs.Meaning.{among}
 use Rattle.triples.specs.Seeks.{Leapt}
 use Rattle.triples.specs.Unions.{union, lesser}
-use Rattle.triples.specs.Finding.{Split, Silent, offer_of}
+use Rattle.triples.specs.Tables.{Ordered}
+use Rattle.triples.specs.Finding.{Split, Silent, offer_of, reachable}
 use Rattle.triples.proofs.Order.{same_is, same_itself}
 use Rattle.triples.proofs.Selectors.{floor_reached}
 use Rattle.triples.specs.Laws.{among-append}
@@ -79,6 +87,34 @@ module _ (p : Position) (s : Selector) (bound : ℕ) where
   lesser_none None = refl
   lesser_none (Some n) = refl
 
+  -- the smallest number offered by a list
+
+  min_assoc : (a b k : ℕ) → min (min a b) k ≡ min a (min b k)
+  min_assoc a b k = omega arith
+
+  lesser_min : (k n : ℕ) → Some (min k n) ≡ lesser (Some k) (Some n)
+  lesser_min k n = grind (arith, nat_tests)
+
+  fold_min : (a b : ℕ) (ks : List ℕ) → fold min (min a b) ks ≡ min a (fold min b ks)
+  fold_min a b [] = refl
+  fold_min a b (k ∷ ks) = ap (λ n. fold min n ks) (min_assoc a b k) ∙ fold_min a (min b k) ks
+
+  least_more : (k : ℕ) (ks : List ℕ) → reduce min (k ∷ ks) ≡ lesser (Some k) (reduce min ks)
+  least_more k [] = refl
+  least_more k (n ∷ ks) = ap Some (fold_min k n ks) ∙ lesser_min k (fold min n ks)
+
+  least_offer : (o : Option ℕ) (ks : List ℕ) → reduce min (cons_option o ks) ≡ lesser o (reduce min ks)
+  least_offer None ks = refl
+  least_offer (Some k) ks = least_more k ks
+
+  pub leapt_offers : (ts : List Triple)
+      → Leapt (among ts) p s bound (reduce min (filter_map (λ t. offer_of t p s bound) ts))
+  leapt_offers [] = λ k o. both_ways false refl o.held
+  leapt_offers (t ∷ ts) =
+      let offers = filter_map (λ t. offer_of t p s bound) ts in
+      subst (Leapt (among (t ∷ ts)) p s bound) (sym (least_offer (offer_of t p s bound) offers))
+      (leapt_append (t ∷ []) ts (offer_of t p s bound) (reduce min offers) (leapt_one t) (leapt_offers ts))
+
   module _ {X : Type 0} (triple : X → Triple) where
     pub leapt_silent : (xs : List X) → Silent triple xs s 0 (length xs)
         → Leapt (among (map triple xs)) p s bound None
@@ -105,22 +141,8 @@ module _ (p : Position) (s : Selector) (bound : ℕ) where
           (λ m. m)
           (cases_Bool (matches s (triple (get_or (take n xs) k d)))))
 
-      pub leapt_more : (n : ℕ) (x : X) (least : Option ℕ) → n < length xs → x ≡ get_or xs n x
-          → Leapt (among (map triple (take n xs))) p s bound least
-          → Leapt (among (map triple (take (n + 1) xs))) p s bound
-          (lesser least (offer_of (triple x) p s bound))
-      leapt_more n x least l e f =
-          subst (λ ts. Leapt (among ts) p s bound (lesser least (offer_of (triple x) p s bound)))
-          (ap (λ y. map triple (take n xs) ++ triple y ∷ []) e ∙ sym (map_more triple xs n x l))
-          (leapt_append (map triple (take n xs)) (triple x ∷ []) least (offer_of (triple x) p s bound) f
-          (leapt_one (triple x)))
-
-      pub leapt_all : (n : ℕ) (least : Option ℕ) → length xs ≤ n
-          → Leapt (among (map triple (take n xs))) p s bound least
-          → Leapt (among (map triple xs)) p s bound least
-      leapt_all n least h f = subst (λ ys. Leapt (among (map triple ys)) p s bound least) (take_all n xs h) f
-
-      pub leapt_rest : (n : ℕ) (least : Option ℕ) → Silent triple xs s n (length xs)
+      -- from a place behind which nothing matches, the elements up to it decide
+      leapt_rest : (n : ℕ) (least : Option ℕ) → Silent triple xs s n (length xs)
           → Leapt (among (map triple (take n xs))) p s bound least
           → Leapt (among (map triple xs)) p s bound least
       leapt_rest n least silent f =
@@ -133,3 +155,44 @@ module _ (p : Position) (s : Selector) (bound : ℕ) where
           let len = length-drop n xs in
           subst (λ x. matches s (triple x) ≡ false) (sym (get_or-drop n xs k d))
           (silent (n + k) d (omega arith) (omega (arith, inside, len)))))))
+
+      -- from a place before which nothing matches, the elements from it on decide
+      leapt_begun : (n : ℕ) (least : Option ℕ) → Split triple xs (floor s) n
+          → Leapt (among (map triple (drop n xs))) p s bound least
+          → Leapt (among (map triple xs)) p s bound least
+      leapt_begun n least split f =
+          subst (λ ts. Leapt (among ts) p s bound least)
+          (sym (map-append triple (take n xs) (drop n xs)) ∙ ap (map triple) (take-append-drop n xs))
+          (leapt_append (map triple (take n xs)) (map triple (drop n xs)) None least (leapt_none n split) f)
+
+    -- behind the triples reached nothing matches
+    reach : List X → ℕ
+    reach xs = prefix_len (λ t. not (passed s t)) (map triple xs)
+
+    silent_behind : (xs : List X) → Ordered triple xs → Silent triple xs s (reach xs) (length xs)
+    unfolding reach
+    silent_behind xs ordered k d low high =
+        let n = reach xs in
+        let inside : n < length xs = omega (arith, low, high) in
+        let len = length-map xs triple in
+        let stop = prefix_len_stops (λ t. not (passed s t)) (map triple xs) (triple d) (omega (arith, inside, len)) in
+        passed_none s (triple (get_or xs n d)) (triple (get_or xs k d))
+        (subst (λ t. passed s t ≡ true) (get_or-map triple xs n d (triple d) inside) (not-false _ stop))
+        (ordered_upto triple xs ordered n k d low high)
+
+    leapt_passed : (xs : List X) → Ordered triple xs
+        → Leapt (among (map triple xs)) p s bound
+        (reduce min (filter_map (λ t. offer_of t p s bound) (reachable triple xs s 0)))
+    unfolding reach
+    leapt_passed xs ordered =
+        let least = reduce min (filter_map (λ t. offer_of t p s bound) (reachable triple xs s 0)) in
+        leapt_rest xs (reach xs) least (silent_behind xs ordered)
+        (subst (λ ts. Leapt (among ts) p s bound least) (take-map triple (reach xs) xs)
+        (leapt_offers (reachable triple xs s 0)))
+
+    -- the smallest number that the triples reached offer
+    pub leapt_reachable : (xs : List X) → Ordered triple xs → (from : ℕ) → Split triple xs (floor s) from
+        → Leapt (among (map triple xs)) p s bound
+        (reduce min (filter_map (λ t. offer_of t p s bound) (reachable triple xs s from)))
+    leapt_reachable xs ordered from split =
+        leapt_begun xs from _ split (leapt_passed (drop from xs) (ordered_dropped triple xs ordered from))

@@ -2,11 +2,12 @@
 --     Lexical, LexicalPair     the answer that comparing two triples, or two pairs, has
 use Rattle.std.proofs.Common.{◌≡◌, ℕ, ◌+◌, ◌-◌, true, false, List, Ordering, Less, get_or, arith}
 use Rattle.std.proofs.lemmas.Bool.Decides.{nat_tests}
-use Rattle.std.specs.Ordering.{ordering_then, nat_cmp}
+use Rattle.std.specs.Ordering.{ordering_then, nat_cmp, ord_max}
 use Rattle.triples.specs.declared.pair.Pair.{Pair}
 use Rattle.triples.specs.declared.triple.Triple.{Triple}
 use Rattle.triples.specs.Order.{before}
 use Rattle.triples.specs.Ascent.{Ascends, Falls}
+use Rattle.triples.specs.Finding.{later}
 use Rattle.triples.specs.Tables.{Ordered, NotAbove, itself, triple_of}
 
 abbrev pub Lexical : Triple → Triple → Ordering → Type 0
@@ -52,3 +53,10 @@ pairs_fall property pairs i f = record {
   inside = f.inside;
   unless = λ d. pair_not property (get_or pairs (i - 1) d) (get_or pairs i d) f.found (f.compared d) f.unless;
 }
+
+-- the greater of two triples does not come before the other
+pub max_later : (t u : Triple)
+    → ord_max (λ x y. ordering_then (nat_cmp x.subject y.subject)
+    (ordering_then (nat_cmp x.property y.property) (nat_cmp x.object y.object))) t u
+    ≡ later t u
+max_later t u = grind (arith, nat_tests)

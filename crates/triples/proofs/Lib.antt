@@ -8,6 +8,7 @@ pub mod Meaning  -- laws of being an element of a list
 pub mod Finding  -- laws of searching an ordered list
 pub mod Joins  -- answers put together from those about parts
 pub mod Leaps  -- laws of leaping over an ordered list
+pub mod Ascents  -- where a list falls first
 pub mod Lexical  -- what the derived orders say of a list
 pub mod Refusals  -- a rejection by its parts
 pub mod Rows  -- what an accepted table is

@@ -1,5 +1,7 @@
 -- What is sought or leapt to in two sets taken together is the better of the two answers. Assumes nothing.
-use Rattle.std.proofs.Common.{ℕ, Bool, ltb, ◌⊎◌, Some, None, Option, sym, subst, inl, inr, ⊎_elim, arith}
+use Rattle.std.specs.Ordering.{ordering_then, nat_cmp}
+use Rattle.std.proofs.lemmas.Bool.Decides.{nat_tests}
+use Rattle.std.proofs.Common.{◌≡◌, refl, ℕ, Bool, ltb, ◌⊎◌, Some, None, Option, sym, subst, inl, inr, ⊎_elim, arith}
 use Rattle.std.proofs.lemmas.Bool.{cases_Bool, or_cases, or_left, or_right, ltb-true, ltb-false, cond-true}
 use Rattle.std.proofs.lemmas.Bool.{cond-false}
 use Rattle.triples.specs.declared.position.Position.{Position}
@@ -7,7 +9,7 @@ use Rattle.triples.specs.declared.selector.Selector.{Selector}
 use Rattle.triples.specs.declared.triple.Triple.{Triple}
 use Rattle.triples.specs.Order.{before}
 use Rattle.triples.specs.Seeks.{Candidate, Sought, Offer, Leapt}
-use Rattle.triples.specs.Unions.{union, earlier, lesser}
+use Rattle.triples.specs.Unions.{union, least, earlier, lesser}
 use Rattle.triples.proofs.Order.{upto_trans, upto_before}
 
 module _ (A B : Triple → Bool) where
@@ -117,3 +119,18 @@ module _ (A B : Triple → Bool) where
               (offer_parts x o);
         }))
         (cases_Bool (ltb k n))
+
+-- the lesser of two triples, or of two numbers
+
+pub least_earlier : (a b : Option Triple)
+    → least (λ t u. ordering_then (nat_cmp t.subject u.subject)
+    (ordering_then (nat_cmp t.property u.property) (nat_cmp t.object u.object))) a b
+    ≡ earlier a b
+least_earlier None b = refl
+least_earlier (Some t) None = refl
+least_earlier (Some t) (Some u) = grind (arith, nat_tests)
+
+pub least_lesser : (a b : Option ℕ) → least nat_cmp a b ≡ lesser a b
+least_lesser None b = refl
+least_lesser (Some n) None = refl
+least_lesser (Some n) (Some k) = grind (arith, nat_tests)

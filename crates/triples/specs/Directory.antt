@@ -67,11 +67,3 @@ pub record FirstBroken (top : ℕ) (dir : List DirectoryEntry) (pairs i : ℕ) :
   pub inside : i < length dir
   pub bad : entry_good top dir pairs i ≡ false
   pub earlier : (k : ℕ) → k < i → entry_good top dir pairs k ≡ true
-
--- where the entry stands among triples: at its property
-abbrev pub entry_triple : DirectoryEntry → Triple
-entry_triple e = record { subject = 0; property = e.property; object = 0 }
-
--- the entry's property is a term
-abbrev pub property_good : ℕ → DirectoryEntry → Bool
-property_good top e = term top e.property

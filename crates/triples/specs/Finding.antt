@@ -1,11 +1,11 @@
 -- Where a start stands in an ordered list. Assumes nothing.
-use Rattle.std.specs.Prelude.{◌≡◌, ℕ, ◌<◌, ◌≤◌, true, false, cond, List, length, Some, None, Option}
-use Rattle.std.specs.Prelude.{MatchOption, slice_index_or}
+use Rattle.std.specs.Prelude.{◌≡◌, ℕ, ◌<◌, ◌≤◌, true, false, cond, not, List, map, length, drop, Some, None}
+use Rattle.std.specs.Prelude.{Option, MatchOption, slice_index_or, take_while}
 use Rattle.triples.specs.declared.position.Position.{Position}
 use Rattle.triples.specs.declared.selector.Selector.{Selector}
 use Rattle.triples.specs.declared.triple.Triple.{Triple}
 use Rattle.triples.specs.Order.{before, number_from}
-use Rattle.triples.specs.Selectors.{matches}
+use Rattle.triples.specs.Selectors.{matches, passed}
 
 -- the one of the two triples that does not come before the other
 abbrev pub later : Triple → Triple → Triple
@@ -37,6 +37,10 @@ pub record FirstMatch {X : Type 0} (triple : X → Triple) (xs : List X) (select
 abbrev pub Met : {X : Type 0} → (X → Triple) → List X → Selector → ℕ → Option Triple → Type 0
 Met triple xs selector from r =
     MatchOption r (Silent triple xs selector from (length xs)) (FirstMatch triple xs selector from)
+
+-- the triples of the list from the place `from` on, up to the first that is passed
+abbrev pub reachable : {X : Type 0} → (X → Triple) → List X → Selector → ℕ → List Triple
+reachable triple xs selector from = take_while (λ t. not (passed selector t)) (map triple (drop from xs))
 
 -- the number at the position of t, if t matches the selector and the number is not below the bound
 abbrev pub offer_of : Triple → Position → Selector → ℕ → Option ℕ

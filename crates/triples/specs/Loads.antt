@@ -1,15 +1,11 @@
 -- What loading a table answers. Assumes nothing.
-use Rattle.std.specs.Prelude.{◌≡◌, ℕ, ◌+◌, ◌<◌, List, length, Some, None, Ok, Err, vec_items, Result, Vec}
+use Rattle.std.specs.Prelude.{◌≡◌, ℕ, Some, None, Ok, Err, vec_items, Result, Vec}
 use Rattle.std.specs.declared.alloc.Global.{Global}
 use Rattle.refusal.specs.declared.declined.Declined.{Declined}
-use Rattle.triples.specs.declared.entry.DirectoryEntry.{DirectoryEntry}
-use Rattle.triples.specs.declared.pair.Pair.{Pair}
 use Rattle.triples.specs.declared.property_store.PropertyStore.{PropertyStore}
 use Rattle.triples.specs.declared.property_store.PropertyTable.{PropertyTable}
 use Rattle.triples.specs.declared.row_store.RowStore.{RowStore}
 use Rattle.triples.specs.declared.triple.Triple.{Triple}
-use Rattle.triples.specs.Tables.{NotAbove, triple_of}
-use Rattle.triples.specs.Directory.{property_of, first_of, section}
 use Rattle.triples.specs.Rows.{RowsOutcome}
 use Rattle.triples.specs.Sections.{TableOutcome}
 
@@ -18,14 +14,6 @@ abbrev pub RowsLoaded : ℕ → Vec Triple Global → Result RowStore (Declined 
 RowsLoaded top rows (Ok s) = RowsOutcome top (vec_items rows) None × (s.top ≡ top) × (s.rows ≡ rows)
 RowsLoaded top rows (Err d) =
     RowsOutcome top (vec_items rows) (Some d.rejection) × (d.given ≡ rows)
-
--- k is the place, among all pairs, of a pair that is not above the one before it in its entry
-pub record Fallen (dir : List DirectoryEntry) (pairs : List Pair) (k : ℕ) : Type 0 where
-  pub entry : ℕ
-  pub place : ℕ
-  pub inside : entry < length dir
-  pub falls : NotAbove (triple_of (property_of dir entry)) (section dir pairs entry) place
-  pub is : k ≡ first_of dir entry + place
 
 -- the store has the top and the lists, or the refusal is the table's and the lists come back
 abbrev pub TableLoaded : ℕ → PropertyTable → Result PropertyStore (Declined PropertyTable) → Type 0

@@ -36,6 +36,14 @@ SectionsOrdered dir pairs =
     → before (triple_of (property_of dir i) (slice_index_or (section dir pairs i) k no_pair))
     (triple_of (property_of dir i) (slice_index_or (section dir pairs i) (k + 1) no_pair)) ≡ true
 
+-- k is the place, among all pairs, of a pair that is not above the one before it in its entry
+pub record Fallen (dir : List DirectoryEntry) (pairs : List Pair) (k : ℕ) : Type 0 where
+  pub entry : ℕ
+  pub place : ℕ
+  pub inside : entry < length dir
+  pub falls : NotAbove (triple_of (property_of dir entry)) (section dir pairs entry) place
+  pub is : k ≡ first_of dir entry + place
+
 -- a lawful table: within its limits, with a whole directory, each number a term, and each entry's pairs
 -- ascending
 pub record TableLawful (top : ℕ) (dir : List DirectoryEntry) (pairs : List Pair) : Type 0 where

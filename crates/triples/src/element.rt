@@ -1,7 +1,7 @@
 //! The elements of the lists that a store keeps, each with the triple that it stands for.
-ghost use Rattle.std.specs.Prelude.{◌≡◌, ℕ, Bool};
+ghost use Rattle.std.specs.Prelude.{◌≡◌, ℕ, Bool, MatchOption};
 ghost use Rattle.triples.specs.declared.triple.Triple.{Triple};
-ghost use Rattle.triples.specs.Tables.{triple_good, pair_good, triple_of};
+ghost use Rattle.triples.specs.Tables.{AllGood, FirstBad, triple_good, pair_good, triple_of};
 
 use crate::pair::Pair;
 use crate::store::is_term;
@@ -54,4 +54,12 @@ impl Element for Pair {
     fn is_good(&self, top: u32) -> bool {
         is_term(top, self.subject) && is_term(top, self.object)
     }
+}
+
+/// The first element whose own numbers are not all terms up to the top; none where all are.
+pub(crate) fn first_outside<T: Element>(items: &[T], top: u32) -> Option<usize>
+    ensures { MatchOption result (AllGood (T.Element.good top) items.now)
+        (FirstBad (T.Element.good top) items.now) }
+{
+    items.iter().position(|item| !item.is_good(top))
 }

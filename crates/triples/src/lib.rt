@@ -2,10 +2,8 @@
 #![tactic(auto)]
 
 pub mod ascent;
-mod directory;
 mod element;
 pub mod entry;
-mod find;
 pub mod pair;
 pub mod position;
 pub mod property_load;
@@ -14,9 +12,11 @@ pub mod property_store;
 pub mod row_load;
 pub mod row_seek;
 pub mod row_store;
+mod run;
 pub mod selector;
-mod span;
 pub mod store;
+mod table;
+pub mod text;
 pub mod theorems;
 pub mod triple;
 pub mod union;

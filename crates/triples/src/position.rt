@@ -29,6 +29,7 @@ impl Triple {
 pub(crate) fn offered(found: Option<Triple>, position: Position, bound: u32) -> Option<u32>
     ensures { result ≡ number_from position bound found }
 {
-    let number = found?.value(position);
-    if bound <= number { Some(number) } else { None }
+    found
+        .map(|triple| triple.value(position))
+        .filter(|number| bound <= *number)
 }

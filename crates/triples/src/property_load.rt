@@ -1,62 +1,43 @@
 //! Loading a property store, or saying why not.
-ghost use Rattle.std.specs.Prelude.{◌≡◌, ◌+◌, ◌<◌, length, vec_len, MatchOption};
-ghost use Rattle.triples.specs.Directory.{EntriesGood};
-ghost use Rattle.triples.specs.Sections.{TableOutcome, SectionsOrdered};
-ghost use Rattle.triples.specs.Loads.{TableLoaded, Fallen};
+ghost use Rattle.std.specs.Prelude.{◌≡◌, vec_len, MatchResult};
+ghost use Rattle.triples.specs.Sections.{TableOutcome};
+ghost use Rattle.triples.specs.Loads.{TableLoaded};
 
-use crate::ascent::fall;
-use crate::directory::{first_broken, pairs_of};
+use crate::element::first_outside;
 use crate::entry::DirectoryEntry;
-use crate::find::first_outside;
 use crate::pair::Pair;
 use crate::property_store::{MOST_ENTRIES, MOST_PAIRS, PropertyStore, PropertyTable};
 use crate::store::LARGEST_TOP;
+use crate::table::{Table, first_broken};
 use refusal::declined::Declined;
 use refusal::refusal::Refusal;
 use refusal::rejection::Rejection;
 
-/// The place of a pair that is not above the one before it in its entry; none where each entry's pairs
-/// ascend.
-fn fall_in_entry(top: u32, directory: &[DirectoryEntry], pairs: &[Pair]) -> Option<usize>
-    requires { EntriesGood top directory.now (length pairs.now) }
-    ensures { MatchOption result (SectionsOrdered directory.now pairs.now) (Fallen directory.now pairs.now) }
-{
-    for i in 0..directory.len() {
-        if let Some(place) = fall(pairs_of(top, directory, pairs, i)) {
-            return Some(directory[i].first as usize + place);
-        }
-    }
-    None
-}
-
-/// Why the top, the directory and the pairs are no property store; none where they are one.
-fn fault(top: u32, directory: &[DirectoryEntry], pairs: &[Pair]) -> Option<Rejection>
-    ensures { TableOutcome top directory.now pairs.now result }
+/// Accepts a top, a directory and pairs that are a property store, or says why they are none.
+fn check(top: u32, directory: &[DirectoryEntry], pairs: &[Pair]) -> Result<(), Rejection>
+    ensures { MatchResult result (λ _. TableOutcome top directory.now pairs.now None)
+        (λ r. TableOutcome top directory.now pairs.now (Some r)) }
 {
     if top > LARGEST_TOP || directory.len() > MOST_ENTRIES || pairs.len() > MOST_PAIRS {
-        return Some(Rejection::unplaced(Refusal::OverLimit));
+        return Err(Rejection::unplaced(Refusal::OverLimit));
     }
-    if directory.len() == 0 && pairs.len() > 0 {
-        return Some(Rejection::unplaced(Refusal::DirectoryBroken));
+    if directory.is_empty() && !pairs.is_empty() {
+        return Err(Rejection::unplaced(Refusal::DirectoryBroken));
     }
-    if let Some(place) = first_broken(top, directory, pairs.len()) {
-        return Some(Rejection {
-            refusal: Refusal::DirectoryBroken,
-            place,
-        });
+    if let Some(entry) = first_broken(top, directory, pairs.len()) {
+        return Err(Refusal::DirectoryBroken.at(entry));
     }
     if let Some(place) = first_outside(pairs, top) {
-        return Some(Rejection {
-            refusal: Refusal::OutsideTerms,
-            place,
-        });
+        return Err(Refusal::OutsideTerms.at(place));
     }
-    match fall_in_entry(top, directory, pairs) {
-        Some(place) => Some(Rejection {
-            refusal: Refusal::NotAscending,
-            place,
-        }),
-        None => None,
+    let table = Table {
+        top,
+        directory,
+        pairs,
+    };
+    match table.fall_in_entry() {
+        Some(place) => Err(Refusal::NotAscending.at(place)),
+        None => Ok(()),
     }
 }
 
@@ -69,12 +50,8 @@ impl PropertyStore {
     pub fn load(top: u32, table: PropertyTable) -> Result<PropertyStore, Declined<PropertyTable>>
         ensures { TableLoaded top table result }
     {
-        match fault(top, table.directory.as_slice(), table.pairs.as_slice()) {
-            Some(rejection) => Err(Declined {
-                rejection,
-                given: table,
-            }),
-            None => {
+        match check(top, &table.directory, &table.pairs) {
+            Ok(()) => {
                 let PropertyTable { directory, pairs } = table;
                 Ok(PropertyStore {
                     top,
@@ -82,6 +59,10 @@ impl PropertyStore {
                     pairs,
                 })
             }
+            Err(rejection) => Err(Declined {
+                rejection,
+                given: table,
+            }),
         }
     }
 

@@ -1,78 +1,93 @@
 //! A property store as a store.
-ghost use Rattle.std.specs.Prelude.{length};
+ghost use Rattle.std.specs.Prelude.{◌≡◌, ℕ, ◌<◌, Option, vec_len};
 ghost use Rattle.triples.specs.Meaning.{among};
 ghost use Rattle.triples.specs.Seeks.{Sought, Leapt};
-ghost use Rattle.triples.specs.Directory.{EntriesGood, table_triples};
-ghost use Rattle.triples.specs.Sections.{SectionsOrdered};
+ghost use Rattle.triples.specs.Selectors.{select};
+ghost use Rattle.triples.specs.declared.position.Position.TheVariants.{Property};
+ghost use Rattle.triples.specs.Unions.{earlier, lesser};
+ghost use Rattle.triples.specs.declared.triple.Triple.{Triple};
+ghost use Rattle.triples.specs.Directory.{property_of, section, section_triples};
 ghost use Rattle.triples.specs.Laws.{table_sound};
 ghost use Rattle.triples.specs.Theorems.{table_meaning};
 
-use crate::directory::{pairs_of, span_of};
-use crate::entry::DirectoryEntry;
-use crate::find::{leap_in, seek_in};
 use crate::pair::Pair;
 use crate::position::Position;
 use crate::property_store::PropertyStore;
+use crate::run::Run;
 use crate::selector::Selector;
 use crate::store::Store;
+use crate::table::Table;
 use crate::triple::Triple;
-use crate::union::{earlier_of, lesser_of};
+use crate::union::least_of;
 
-/// The least triple of the table that matches the selector and is not below the start. Within an entry the
-/// property is known, so its pairs are sought by subject and object.
-fn seek_sections(
-    top: u32,
-    directory: &[DirectoryEntry],
-    pairs: &[Pair],
-    selector: Selector,
-    start: Triple,
-) -> Option<Triple>
-    requires good { EntriesGood top directory.now (length pairs.now) }
-    requires ordered { SectionsOrdered directory.now pairs.now }
-    ensures { Sought (among (table_triples directory.now pairs.now)) selector start result }
-{
-    let span = span_of(directory, selector.property);
-    let mut least = None;
-    // Kept: `least` is what is sought among the triples of the entries before `i`.
-    for i in span.from..span.to {
-        let property = directory[i].property;
-        let known = selector.with(Position::Property, property);
-        let found = seek_in(pairs_of(top, directory, pairs, i), property, known, start);
-        least = earlier_of(least, found);
+impl PropertyStore {
+    /// The lists of the store, as a table in order.
+    fn table(&self) -> Table<'_>
+        ensures directory { result.directory.now ≡ self.now.directory.items }
+        ensures pairs { result.pairs.now ≡ self.now.pairs.items }
+    {
+        Table {
+            top: self.top,
+            directory: &self.directory,
+            pairs: &self.pairs,
+        }
     }
-    least
-}
 
-/// The smallest number from the bound on at the position of a triple of the table that matches. Within an
-/// entry the property is known, so one seek or one pass over its pairs answers.
-fn leap_sections(
-    top: u32,
-    directory: &[DirectoryEntry],
-    pairs: &[Pair],
-    position: Position,
-    selector: Selector,
-    bound: u32,
-) -> Option<u32>
-    requires good { EntriesGood top directory.now (length pairs.now) }
-    requires ordered { SectionsOrdered directory.now pairs.now }
-    ensures { Leapt (among (table_triples directory.now pairs.now)) position selector bound result }
-{
-    let span = span_of(directory, selector.property);
-    let mut least = None;
-    // Kept: `least` is the smallest number that the entries before `i` offer.
-    for i in span.from..span.to {
-        let property = directory[i].property;
-        let known = selector.with(Position::Property, property);
-        let found = leap_in(
-            pairs_of(top, directory, pairs, i),
-            property,
-            position,
-            known,
-            bound,
-        );
-        least = lesser_of(least, found);
+    /// The pairs of entry `i`, under its property.
+    fn run(&self, i: usize) -> Run<'_, Pair>
+        requires { i < vec_len self.now.directory }
+        ensures property { result.property ≡ property_of self.now.directory.items i }
+        ensures items { result.items.now ≡ section self.now.directory.items self.now.pairs.items i }
+    {
+        let table = self.table();
+        Run {
+            items: table.pairs_of(i),
+            property: table.directory[i].property,
+        }
     }
-    least
+
+    /// The earlier of `least` and the least triple of entry `i` that matches the selector but for its property
+    /// and is not below the start. Within an entry the property is known, so its pairs are sought by subject
+    /// and object.
+    fn seek_entry(
+        &self,
+        least: Option<Triple>,
+        i: usize,
+        selector: Selector,
+        start: Triple,
+    ) -> Option<Triple>
+        requires { i < vec_len self.now.directory }
+        ensures { (found : Option Triple)
+            × Sought (among (section_triples self.now.directory.items self.now.pairs.items i))
+            (select selector Property (property_of self.now.directory.items i)) start found
+            × (result ≡ earlier least found) }
+    {
+        let run = self.run(i);
+        let known = selector.with(Position::Property, run.property);
+        least_of(least, run.seek(known, start))
+    }
+
+    /// The lesser of `least` and the smallest number from the bound on at the position of a triple of entry `i`
+    /// that matches the selector but for its property. Within an entry the property is known, so one seek or
+    /// one pass over its pairs answers.
+    fn leap_entry(
+        &self,
+        least: Option<u32>,
+        i: usize,
+        position: Position,
+        selector: Selector,
+        bound: u32,
+    ) -> Option<u32>
+        requires { i < vec_len self.now.directory }
+        ensures { (found : Option ℕ)
+            × Leapt (among (section_triples self.now.directory.items self.now.pairs.items i)) position
+            (select selector Property (property_of self.now.directory.items i)) bound found
+            × (result ≡ lesser least found) }
+    {
+        let run = self.run(i);
+        let known = selector.with(Position::Property, run.property);
+        least_of(least, run.leap(position, known, bound))
+    }
 }
 
 impl Store for PropertyStore {
@@ -87,23 +102,18 @@ impl Store for PropertyStore {
     }
 
     fn seek(&mut self, selector: Selector, start: Triple) -> Option<Triple> {
-        seek_sections(
-            self.top,
-            self.directory.as_slice(),
-            self.pairs.as_slice(),
-            selector,
-            start,
+        let store = &*self;
+        store.table().span_of(selector.property).fold(
+            None,
+            |least, i| store.seek_entry(least, i, selector, start),
         )
     }
 
     fn leap(&mut self, position: Position, selector: Selector, bound: u32) -> Option<u32> {
-        leap_sections(
-            self.top,
-            self.directory.as_slice(),
-            self.pairs.as_slice(),
-            position,
-            selector,
-            bound,
+        let store = &*self;
+        store.table().span_of(selector.property).fold(
+            None,
+            |least, i| store.leap_entry(least, i, position, selector, bound),
         )
     }
 }

@@ -1,10 +1,10 @@
 //! Loading a row store, or saying why not.
-ghost use Rattle.std.specs.Prelude.{◌≡◌, vec_len};
+ghost use Rattle.std.specs.Prelude.{◌≡◌, vec_len, MatchResult};
 ghost use Rattle.triples.specs.Rows.{RowsOutcome};
 ghost use Rattle.triples.specs.Loads.{RowsLoaded};
 
 use crate::ascent::fall;
-use crate::find::first_outside;
+use crate::element::first_outside;
 use crate::row_store::{MOST_TRIPLES, RowStore};
 use crate::store::LARGEST_TOP;
 use crate::triple::Triple;
@@ -12,25 +12,20 @@ use refusal::declined::Declined;
 use refusal::refusal::Refusal;
 use refusal::rejection::Rejection;
 
-/// Why the top and the triples are no row store; none where they are one.
-fn fault(top: u32, rows: &[Triple]) -> Option<Rejection>
-    ensures { RowsOutcome top rows.now result }
+/// Accepts a top and triples that are a row store, or says why they are none.
+fn check(top: u32, rows: &[Triple]) -> Result<(), Rejection>
+    ensures { MatchResult result (λ _. RowsOutcome top rows.now None)
+        (λ r. RowsOutcome top rows.now (Some r)) }
 {
     if top > LARGEST_TOP || rows.len() > MOST_TRIPLES {
-        return Some(Rejection::unplaced(Refusal::OverLimit));
+        return Err(Rejection::unplaced(Refusal::OverLimit));
     }
     if let Some(place) = first_outside(rows, top) {
-        return Some(Rejection {
-            refusal: Refusal::OutsideTerms,
-            place,
-        });
+        return Err(Refusal::OutsideTerms.at(place));
     }
     match fall(rows) {
-        Some(place) => Some(Rejection {
-            refusal: Refusal::NotAscending,
-            place,
-        }),
-        None => None,
+        Some(place) => Err(Refusal::NotAscending.at(place)),
+        None => Ok(()),
     }
 }
 
@@ -41,12 +36,12 @@ impl RowStore {
     pub fn load(top: u32, rows: Vec<Triple>) -> Result<RowStore, Declined<Vec<Triple>>>
         ensures { RowsLoaded top rows result }
     {
-        match fault(top, rows.as_slice()) {
-            Some(rejection) => Err(Declined {
+        match check(top, &rows) {
+            Ok(()) => Ok(RowStore { top, rows }),
+            Err(rejection) => Err(Declined {
                 rejection,
                 given: rows,
             }),
-            None => Ok(RowStore { top, rows }),
         }
     }
 

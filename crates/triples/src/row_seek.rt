@@ -1,13 +1,26 @@
 //! A row store as a store.
+ghost use Rattle.std.specs.Prelude.{◌≡◌};
 ghost use Rattle.triples.specs.Theorems.{rows_meaning};
 ghost use Rattle.triples.specs.Laws.{listed_sound};
 
-use crate::find::{leap_in, seek_in};
 use crate::position::Position;
 use crate::row_store::RowStore;
+use crate::run::Run;
 use crate::selector::{ANY, Selector};
 use crate::store::Store;
 use crate::triple::Triple;
+
+impl RowStore {
+    /// The triples as one list, which has no property of its own.
+    fn run(&self) -> Run<'_, Triple>
+        ensures { result.items.now ≡ self.now.rows.items }
+    {
+        Run {
+            items: &self.rows,
+            property: ANY,
+        }
+    }
+}
 
 impl Store for RowStore {
     ghost meaning = { rows_meaning };
@@ -19,10 +32,10 @@ impl Store for RowStore {
     }
 
     fn seek(&mut self, selector: Selector, start: Triple) -> Option<Triple> {
-        seek_in(self.rows.as_slice(), ANY, selector, start)
+        self.run().seek(selector, start)
     }
 
     fn leap(&mut self, position: Position, selector: Selector, bound: u32) -> Option<u32> {
-        leap_in(self.rows.as_slice(), ANY, position, selector, bound)
+        self.run().leap(position, selector, bound)
     }
 }

@@ -9,6 +9,7 @@ use crate::triple::{ORIGIN, Triple};
 pub const ANY: u32 = 0;
 
 /// For each position the number that a triple must have there, or 0 for any.
+// Kept as numbers with 0 for any: this is the published form of a selector.
 #[derive(Clone, Copy)]
 pub struct Selector {
     pub subject: u32,
@@ -40,30 +41,16 @@ impl Selector {
         match position {
             Position::Subject => Selector {
                 subject: number,
-                property: self.property,
-                object: self.object,
+                ..self
             },
             Position::Property => Selector {
-                subject: self.subject,
                 property: number,
-                object: self.object,
+                ..self
             },
             Position::Object => Selector {
-                subject: self.subject,
-                property: self.property,
                 object: number,
+                ..self
             },
-        }
-    }
-
-    /// The selector read as a triple: no triple before it matches.
-    pub(crate) fn floor(self) -> Triple
-        ensures { result ≡ floor self }
-    {
-        Triple {
-            subject: self.subject,
-            property: self.property,
-            object: self.object,
         }
     }
 
@@ -71,16 +58,13 @@ impl Selector {
     pub(crate) fn is_passed(self, triple: Triple) -> bool
         ensures { result ≡ passed self triple }
     {
-        if self.subject == ANY {
-            false
-        } else if self.subject != triple.subject {
-            self.subject < triple.subject
-        } else if self.property == ANY {
-            false
-        } else if self.property != triple.property {
-            self.property < triple.property
-        } else {
-            self.object != ANY && self.object < triple.object
+        match self {
+            Selector { subject: ANY, .. } => false,
+            Selector { property: ANY, .. } => self.subject < triple.subject,
+            Selector { object: ANY, .. } => {
+                (self.subject, self.property) < (triple.subject, triple.property)
+            }
+            _ => Triple::from(self) < triple,
         }
     }
 
@@ -93,35 +77,37 @@ impl Selector {
         match position {
             Position::Subject => Some(Triple {
                 subject: bound,
-                property: ANY,
+                ..ORIGIN
+            }),
+            Position::Property if self.subject != ANY => Some(Triple {
+                subject: self.subject,
+                property: bound,
                 object: ANY,
             }),
-            Position::Property => {
-                if self.subject != ANY {
-                    Some(Triple {
-                        subject: self.subject,
-                        property: bound,
-                        object: ANY,
-                    })
-                } else if self.property != ANY {
-                    Some(ORIGIN)
-                } else {
-                    None
-                }
-            }
-            Position::Object => {
-                if self.subject != ANY && self.property != ANY {
-                    Some(Triple {
-                        subject: self.subject,
-                        property: self.property,
-                        object: bound,
-                    })
-                } else if self.object != ANY {
-                    Some(ORIGIN)
-                } else {
-                    None
-                }
-            }
+            Position::Object if self.subject != ANY && self.property != ANY => Some(Triple {
+                object: bound,
+                ..Triple::from(self)
+            }),
+            Position::Property => (self.property != ANY).then_some(ORIGIN),
+            Position::Object => (self.object != ANY).then_some(ORIGIN),
+        }
+    }
+}
+
+/// The selector read as a triple: no triple before it matches.
+impl From<Selector> for Triple {
+    ghost from_gives = { λ s t. t ≡ floor s };
+
+    fn from(selector: Selector) -> Triple {
+        let Selector {
+            subject,
+            property,
+            object,
+        } = selector;
+        Triple {
+            subject,
+            property,
+            object,
         }
     }
 }

@@ -17,18 +17,14 @@ pub const LARGEST_TOP: u32 = 1_000_000;
 pub fn is_term(top: u32, number: u32) -> bool
     ensures { result ≡ term top number }
 {
-    FIRST_TERM <= number && number <= top
+    (FIRST_TERM..=top).contains(&number)
 }
 
 /// The least term from the bound on.
 fn first_term(bound: u32) -> u32
     ensures { result ≡ least_term bound }
 {
-    if bound < FIRST_TERM {
-        FIRST_TERM
-    } else {
-        bound
-    }
+    bound.max(FIRST_TERM)
 }
 
 /// A top and a set of triples over the terms from 1 to the top. Everything above is proved against this

@@ -22,21 +22,13 @@ impl Triple {
     pub fn is_before(self, other: Triple) -> bool
         ensures { result ≡ before self other }
     {
-        if self.subject != other.subject {
-            self.subject < other.subject
-        } else if self.property != other.property {
-            self.property < other.property
-        } else {
-            self.object < other.object
-        }
+        self < other
     }
 
     /// Whether the two are the same triple.
     pub fn is_same(self, other: Triple) -> bool
         ensures { result ≡ same self other }
     {
-        self.subject == other.subject
-            && self.property == other.property
-            && self.object == other.object
+        self == other
     }
 }

@@ -1,27 +1,13 @@
 //! The better of two answers.
 ghost use Rattle.std.specs.Prelude.{◌≡◌};
-ghost use Rattle.triples.specs.Unions.{earlier, lesser};
+ghost use Rattle.triples.specs.Unions.{least};
 
-use crate::triple::Triple;
-
-/// The triple that comes before the other, or the only one there is.
-pub fn earlier_of(one: Option<Triple>, other: Option<Triple>) -> Option<Triple>
-    ensures { result ≡ earlier one other }
+/// The lesser of two, the first where they are equal, or the only one there is.
+pub fn least_of<T: Ord + Copy>(one: Option<T>, other: Option<T>) -> Option<T>
+    ensures { result ≡ least T.Ord.cmp one other }
 {
     match (one, other) {
-        (None, _) => other,
-        (Some(_), None) => one,
-        (Some(t), Some(u)) => if u.is_before(t) { other } else { one },
-    }
-}
-
-/// The smaller number, or the only one there is.
-pub fn lesser_of(one: Option<u32>, other: Option<u32>) -> Option<u32>
-    ensures { result ≡ lesser one other }
-{
-    match (one, other) {
-        (None, _) => other,
-        (Some(_), None) => one,
-        (Some(n), Some(k)) => if k < n { other } else { one },
+        (Some(t), Some(u)) => Some(t.min(u)),
+        _ => one.or(other),
     }
 }

@@ -3,7 +3,7 @@ use Rattle.std.proofs.Common.{sym, ap, ◌∙◌, subst}
 use Rattle.triples.specs.Meaning.{Meaning}
 use Rattle.triples.specs.Seeks.{Leapt}
 use Rattle.triples.specs.Unions.{union}
-use Rattle.triples.proofs.Unions.{leapt_union}
+use Rattle.triples.proofs.Unions.{leapt_union, least_lesser}
 use Rattle.layers.specs.Inverses.{turned, with_turned}
 use Rattle.layers.proofs.inverse_store.InverseStore.leap.Goals as goal
 
@@ -16,7 +16,7 @@ returns g c =
     record {
       answer = subst
           (Leapt (union m.has (turned p q m)) c.args.position c.args.selector c.args.bound)
-          (sym c.lesser_of.ensures)
+          (sym (c.least_of.ensures ∙ least_lesser c.leap-held.result r))
           (leapt_union m.has (turned p q m) c.args.position c.args.selector c.args.bound
           c.leap-held.result r c.leap-held.ensures.answer
           (subst

@@ -3,7 +3,7 @@ use Rattle.std.proofs.Common.{sym, ap, ◌∙◌, subst}
 use Rattle.triples.specs.Meaning.{Meaning}
 use Rattle.triples.specs.Seeks.{Sought}
 use Rattle.triples.specs.Unions.{union}
-use Rattle.triples.proofs.Unions.{sought_union}
+use Rattle.triples.proofs.Unions.{sought_union, least_earlier}
 use Rattle.layers.specs.Inverses.{turned, with_turned}
 use Rattle.layers.proofs.inverse_store.InverseStore.seek.Goals as goal
 
@@ -15,7 +15,7 @@ returns g c =
     let r = c.seek_turned-turned.result in
     record {
       answer = subst (Sought (union m.has (turned p q m)) c.args.selector c.args.start)
-          (sym c.earlier_of.ensures)
+          (sym (c.least_of.ensures ∙ least_earlier c.seek-held.result r))
           (sought_union m.has (turned p q m) c.args.selector c.args.start c.seek-held.result r
           c.seek-held.ensures.answer
           (subst (λ (k : Meaning). Sought (turned p q k) c.args.selector c.args.start r)

@@ -9,9 +9,9 @@ pub invariant_of-result : goal.invariant_of-result
 invariant_of-result c =
     let lawful = subst₂
     (λ (dir : List DirectoryEntry) (pairs : List Pair). TableLawful c.args.top dir pairs)
-    c.as_slice.ensures.value c.as_slice-2.ensures.value
-    (table_accepted c.args.top c.as_slice.result.now c.as_slice-2.result.now
-    c.in-None.ensures) in
+    c.deref.ensures.value c.deref-2.ensures.value
+    (table_accepted c.args.top c.deref.result.now c.deref-2.result.now
+    c.in-Ok.ensures) in
     let entries = lawful.limited.few_entries in
     let pairs = lawful.limited.few_pairs in
     let entries_len = c.args.table.directory.ok.0 in

@@ -9,7 +9,7 @@ pub returns : goal.returns
 returns c = record {
   answer = subst
       (λ (ts : List Triple). Leapt (among ts) c.args.position c.args.selector c.args.bound
-      c.leap_in.result)
-      (map-id c.as_slice.result.now ∙ c.as_slice.ensures.value) c.leap_in.ensures;
+      c.leap.result)
+      (map-id c.run.result.items.now ∙ c.run.ensures) c.leap.ensures;
   same = refl;
 }

@@ -8,7 +8,7 @@ use Rattle.triples.proofs.row_seek.RowStoreStore.seek.Goals as goal
 pub returns : goal.returns
 returns c = record {
   answer = subst
-      (λ (ts : List Triple). Sought (among ts) c.args.selector c.args.start c.seek_in.result)
-      (map-id c.as_slice.result.now ∙ c.as_slice.ensures.value) c.seek_in.ensures;
+      (λ (ts : List Triple). Sought (among ts) c.args.selector c.args.start c.seek.result)
+      (map-id c.run.result.items.now ∙ c.run.ensures) c.seek.ensures;
   same = refl;
 }

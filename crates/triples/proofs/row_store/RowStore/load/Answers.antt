@@ -6,8 +6,8 @@ use Rattle.triples.proofs.row_store.RowStore.load.Goals as goal
 
 pub invariant_of-result : goal.invariant_of-result
 invariant_of-result c =
-    let lawful = subst (λ (ts : List Triple). RowsLawful c.args.top ts) c.as_slice.ensures.value
-    (rows_accepted c.args.top c.as_slice.result.now c.in-None.ensures) in
+    let lawful = subst (λ (ts : List Triple). RowsLawful c.args.top ts) c.deref.ensures.value
+    (rows_accepted c.args.top c.deref.result.now c.in-Ok.ensures) in
     let few = lawful.limited.few in
     let len = c.args.rows.ok.0 in
     record {
