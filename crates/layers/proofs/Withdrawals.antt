@@ -1,12 +1,13 @@
 -- Laws of a store without some triples. Assumes nothing.
 use Rattle.std.proofs.Common.{◌≡◌, ℕ, ◌+◌, ◌*◌, ◌^◌, ◌<◌, ◌≤◌, min, Bool, true, false, cond, not, ◌&&◌, ◌||◌}
-use Rattle.std.proofs.Common.{ltb, List, [], ◌∷◌, ◌++◌, length, is_some, Some, None, Ok, Option, sym, refl}
-use Rattle.std.proofs.Common.{ap, ◌∙◌, ⊎_elim, arith}
+use Rattle.std.proofs.Common.{ltb, List, [], ◌∷◌, ◌++◌, length, is_ok, is_some, Some, None, Option, Result}
+use Rattle.std.proofs.Common.{sym, refl, ap, ◌∙◌, ⊎_elim, arith}
 use mathlib.Core.Path.{fun_ext}
 use Rattle.std.proofs.lemmas.Bool.{true≢false, cases_Bool, cases_eq, both_ways, not-true, not_from_false}
-use Rattle.std.proofs.lemmas.Bool.{and_parts, and_from, cond-true, cond-false, lt-ltb}
+use Rattle.std.proofs.lemmas.Bool.{and_parts, and_from, cond-true, cond-false}
 use Rattle.std.proofs.lemmas.Bool.Decides.{nat_tests}
 use Rattle.refusal.specs.declared.refusal.Refusal.TheVariants.{AlreadyWithdrawn, NotStored, WithdrawnFull}
+use Rattle.refusal.specs.declared.rejection.Rejection.{Rejection}
 use Rattle.triples.specs.declared.position.Position.{Position}
 use Rattle.triples.specs.declared.selector.Selector.{Selector}
 use Rattle.triples.specs.declared.triple.Triple.{Triple}
@@ -37,16 +38,23 @@ without_push m gone t =
     (fun_ext (λ u. ap (λ b. m.has u && not b) (among_push gone t u)
     ∙ and_not_or (m.has u) (among gone u) (same t u)))
 
-pub withdraws_yes : (m : Meaning) (gone : List Triple) (t : Triple) → among gone t ≡ false → m.has t ≡ true
-    → length gone < most_withdrawn → Withdraws m gone t (Ok tt) (gone ++ t ∷ [])
-withdraws_yes m gone t new held room = record {
-  answer = sym (ap outcome
-      (cond-false (among gone t) (Some AlreadyWithdrawn) _ new
-      ∙ cond-true (m.has t) _ (Some NotStored) held
-      ∙ cond-true (ltb (length gone) most_withdrawn) None (Some WithdrawnFull)
-      (lt-ltb (length gone) most_withdrawn room)));
-  list = refl;
-  meaning = without_push m gone t;
+without_added : (m : Meaning) (gone : List Triple) (t : Triple) (b : Bool)
+    → without m (cond b (gone ++ t ∷ []) gone) ≡ cond b (amended (without m gone) t false) (without m gone)
+without_added m gone t true = without_push m gone t
+without_added m gone t false = refl
+
+-- a triple below that is not withdrawn yet is withdrawn where there is room
+pub withdraws_room : (m : Meaning) (gone : List Triple) (t : Triple) (r : Result (Unit {0}) Rejection)
+    (later : List Triple) → among gone t ≡ false → m.has t ≡ true
+    → is_ok r ≡ ltb (length gone) most_withdrawn → r ≡ outcome (cond (is_ok r) None (Some WithdrawnFull))
+    → later ≡ cond (is_ok r) (gone ++ t ∷ []) gone → Withdraws m gone t r later
+withdraws_room m gone t r later new held room answer list = record {
+  answer = answer ∙ ap outcome
+      (ap (λ b. cond b None (Some WithdrawnFull)) room
+      ∙ sym (cond-false (among gone t) (Some AlreadyWithdrawn) _ new
+      ∙ cond-true (m.has t) _ (Some NotStored) held));
+  list = list;
+  meaning = ap (without m) list ∙ without_added m gone t (is_ok r);
 }
 
 -- seek

@@ -2,6 +2,7 @@
 #![tactic(auto)]
 
 pub mod ascent;
+mod blank;
 mod directory;
 mod element;
 pub mod entry;
