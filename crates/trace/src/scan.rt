@@ -2,7 +2,6 @@
 ghost use Rattle.std.specs.Prelude.{◌≡◌, IfOk};
 ghost use Rattle.trace.specs.Scans.{Scanned};
 
-use crate::behind::behind;
 use std::alloc::{AllocError, Global};
 use triples::selector::Selector;
 use triples::store::Store;
@@ -22,7 +21,7 @@ pub fn scan<S: Store>(
     let mut start = ORIGIN;
     while let Some(triple) = store.seek(selector, start) {
         found.push(triple)?;
-        start = behind(triple);
+        start = triple.behind();
     }
     Ok(found)
 }

@@ -3,7 +3,6 @@ ghost use Rattle.std.specs.Prelude.{◌≡◌, ◌<◌, length, IfOk};
 ghost use Rattle.trace.specs.Levels.{Visited};
 ghost use Rattle.trace.specs.Marks.{Noted};
 
-use crate::behind::behind;
 use std::alloc::AllocError;
 use triples::selector::{ANY, Selector};
 use triples::store::Store;
@@ -46,7 +45,7 @@ pub(crate) fn visit<S: Store>(
     let mut start = ORIGIN;
     while let Some(triple) = store.seek(selector, start) {
         note(triple.object, seen, found)?;
-        start = behind(triple);
+        start = triple.behind();
     }
     Ok(())
 }

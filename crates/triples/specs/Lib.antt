@@ -1,6 +1,7 @@
 -- Read in this order.
 pub mod Order  -- how triples compare
 pub mod Origin  -- the least of all triples
+pub mod Succession  -- the triple right behind another
 pub mod Selectors  -- which triples a selector matches
 pub mod Meaning  -- what a store stands for
 pub mod Seeks  -- what seek and leap answer

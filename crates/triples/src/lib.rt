@@ -18,6 +18,7 @@ pub mod row_store;
 pub mod selector;
 mod span;
 pub mod store;
+pub mod succession;
 pub mod theorems;
 pub mod triple;
 pub mod union;

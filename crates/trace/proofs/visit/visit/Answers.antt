@@ -5,7 +5,7 @@ use Rattle.triples.specs.Seeks.{Least}
 use Rattle.trace.proofs.Levels.{of_subject, object_below}
 use Rattle.trace.proofs.Levels.{visited_none, visited_more, visited_all, visited_zero}
 use Rattle.trace.proofs.Seeks.{least_like, none_like}
-use Rattle.trace.proofs.Succession.{near_origin, near_next, object_small, room_next}
+use Rattle.triples.proofs.Ranks.{next_behind, ahead_less}
 use Rattle.trace.proofs.visit.visit.Given.{Over}
 use Rattle.trace.proofs.visit.visit.Goals.{In_ok-note}
 use Rattle.trace.proofs.visit.visit.Goals as goal
@@ -23,7 +23,7 @@ pub loop-triple-init : goal.loop-triple-init
 loop-triple-init g c =
     let has = (g.S.Store.meaning c.args.store.now).has in
     let found = vec_items c.args.found.now in
-    (refl, near_origin, visited_none has c.args.term c.args.seen.now found)
+    (refl, visited_none has c.args.term c.args.seen.now found)
 
 pub note-requires : goal.note-requires
 note-requires g c =
@@ -41,17 +41,11 @@ least g c = least_like c.loop-triple.invariant.0 c.in-Some.ensures.answer
 pub returns-in_err-note : goal.returns-in_err-note
 returns-in_err-note g c = search (rules, IfOk-from_err)
 
-pub behind-start-requires : goal.behind-start-requires
-behind-start-requires g c =
-    let first = c.args.store.now in
-    object_small (g.S.Store.meaning first) (g.S.Store.sound first) (least g c).candidate
-
 pub loop-triple-smaller : goal.loop-triple-smaller
 loop-triple-smaller g c =
     let first = c.args.store.now in
-    let found = (least g (goal.at.loop-triple-smaller g c).In_ok-note).candidate in
-    room_next (g.S.Store.meaning first) (g.S.Store.sound first) found c.behind-start.ensures
-    c.loop-triple.invariant.1
+    ahead_less (g.S.Store.meaning first) (g.S.Store.sound first)
+    (least g (goal.at.loop-triple-smaller g c).In_ok-note).candidate c.behind-start.ensures
 
 pub loop-triple-preserved : goal.loop-triple-preserved
 loop-triple-preserved g c =
@@ -61,15 +55,15 @@ loop-triple-preserved g c =
     let found = least g (goal.at.loop-triple-preserved g c).In_ok-note in
     let some = c.if-term-eq-ANY.false in (
       c.seek.ensures.same ∙ c.loop-triple.invariant.0,
-      near_next m sound found.candidate c.behind-start.ensures,
-      visited_more m.has c.args.term (omega arith) found c.behind-start.ensures
+      visited_more m.has c.args.term (omega arith) found
+          (next_behind m sound found.candidate c.behind-start.ensures)
           (object_below m sound found.candidate c.loop-triple.auto.seen c.requires)
-          c.in_ok-note.ensures c.loop-triple.invariant.2,
+          c.in_ok-note.ensures c.loop-triple.invariant.1,
     )
 
 pub returns : goal.returns
 returns g c = record {
   answer = visited_all (g.S.Store.meaning c.args.store.now).has c.args.term
-      (none_like c.loop-triple.invariant.0 c.in_default.ensures.answer) c.loop-triple.invariant.2;
+      (none_like c.loop-triple.invariant.0 c.in_default.ensures.answer) c.loop-triple.invariant.1;
   same = c.seek.ensures.same ∙ c.loop-triple.invariant.0;
 }
