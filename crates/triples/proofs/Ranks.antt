@@ -6,6 +6,7 @@ use Rattle.triples.specs.declared.triple.Triple.{Triple}
 use Rattle.triples.specs.Meaning.{Meaning, Sound, largest_top}
 use Rattle.triples.specs.Order.{before, same}
 use Rattle.triples.specs.Seeks.{Candidate}
+use Rattle.triples.specs.Matching.{rank, ahead}
 use Rattle.triples.specs.Succession.{behind, step}
 
 -- order
@@ -29,20 +30,8 @@ same_from_behind t u h k = grind (arith, nat_tests)
 
 -- rank
 
--- n, or one more than any term where n is over that
-abbrev pub capped : ℕ → ℕ
-capped n = min n (largest_top + 1)
-
--- a number that rises as triples of a store ascend
-abbrev pub rank : Triple → ℕ
-rank t = capped t.subject * 2 ^ 64 + capped t.property * 2 ^ 32 + capped t.object
-
 rank_small : (t : Triple) → rank t < 2 ^ 100
 rank_small t = omega arith
-
--- how far a rank can still rise
-abbrev pub ahead : Triple → ℕ
-ahead t = 2 ^ 100 - rank t
 
 -- t is a triple of a store, found from start on
 module _ (m : Meaning) (sound : Sound m) {selector : Selector} {start t : Triple}

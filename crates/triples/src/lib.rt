@@ -7,6 +7,7 @@ mod directory;
 mod element;
 pub mod entry;
 mod find;
+pub mod matches;
 pub mod pair;
 pub mod position;
 pub mod property_load;

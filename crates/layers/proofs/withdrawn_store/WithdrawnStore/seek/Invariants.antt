@@ -1,7 +1,7 @@
 -- The meaning below and the withdrawn triples are as they were, and no triple before this start is sought.
 -- Each turn the start moves up.
 use Rattle.std.proofs.Common.{◌≡◌}
-use Rattle.triples.proofs.Ranks.{ahead}
+use Rattle.triples.specs.Matching.{ahead}
 use Rattle.layers.specs.Members.{members}
 use Rattle.layers.proofs.Withdrawals.{Passed}
 use Rattle.layers.proofs.withdrawn_store.WithdrawnStore.seek.Given as goal
