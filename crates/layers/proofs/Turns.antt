@@ -1,20 +1,26 @@
 -- How the turned triples of a store are found by asking for those that they come from. Assumes nothing.
-use Rattle.std.proofs.Common.{◌≡◌, ℕ, ◌≤◌, Bool, true, false, eqb, leb, is_some, Some, None, Option, sym}
-use Rattle.std.proofs.Common.{refl, ap, ◌∙◌, arith}
-use Rattle.std.proofs.lemmas.Bool.{true≢false, and_parts, and_from, eqb-true, eq-eqb}
+use Rattle.std.proofs.Common.{◌≡◌, ℕ, ◌≤◌, Bool, true, false, eqb, leb, is_some, Some, None, Option}
+use Rattle.std.proofs.Common.{sym, refl, ap, ◌∙◌, subst, arith}
+use Rattle.std.proofs.lemmas.Bool.{and_parts, and_from, eqb-true, eq-eqb}
 use Rattle.std.proofs.lemmas.Bool.Decides.{nat_tests}
+use Rattle.std.specs.Bool.{then_some}
 use Rattle.triples.specs.declared.position.Position.{Position}
 use Rattle.triples.specs.declared.position.Position.TheVariants.{Subject, Property, Object}
 use Rattle.triples.specs.declared.selector.Selector.{Selector}
 use Rattle.triples.specs.declared.triple.Triple.{Triple}
-use Rattle.triples.specs.Meaning.{Meaning}
-use Rattle.triples.specs.Order.{before}
+use Rattle.triples.specs.Meaning.{Meaning, Sound, largest_top}
+use Rattle.triples.specs.Order.{before, value_at}
 use Rattle.triples.specs.Selectors.{matches}
 use Rattle.triples.specs.Seeks.{Candidate, Least, Sought, Offer, Lowest, Leapt}
 use Rattle.triples.proofs.Seeks.{origin}
 use Rattle.triples.proofs.Selectors.{origin_reached}
 use Rattle.layers.specs.Inverses.{flip, inverse_of, turned}
+use Rattle.layers.specs.declared.inverse.Inverse.{Inverse}
+use Rattle.layers.specs.declared.turn.Turn.{Turn}
+use Rattle.layers.specs.Soundness.{sound_turned}
+use Rattle.layers.specs.Turning.{turned_of, SameLayer}
 use Rattle.layers.specs.Turns.{swapped, object_from}
+use Rattle.layers.proofs.Leaps.{lowest_term}
 
 -- a leap in one set answers one in another where the same numbers are offered
 leapt_like : (A B : Triple → Bool) (p k : Position) (s w : Selector) (bound : ℕ)
@@ -96,67 +102,67 @@ module _ (m : Meaning) (p q : ℕ) (s w : Selector) (one : 1 ≤ p)
   -- leap
 
   module _ (bound : ℕ) where
-    pub leapt_subject : (r : Option ℕ) → Leapt m.has Object w bound r
-        → Leapt (turned p q m) Subject s bound r
-    leapt_subject = leapt_like (turned p q m) m.has Subject Object s w bound
-        (λ n o. let from = origin_from_turned o.triple o.held o.fit in record {
-          triple = flip p o.triple;
-          held = from.held;
-          fit = from.fit;
-          stands = o.stands;
-          reached = o.reached;
-        })
-        (λ n o. record {
-          triple = flip q o.triple;
-          held = turned_held o.triple o.held o.fit;
-          fit = turned_fit o.triple o.fit;
-          stands = o.stands;
-          reached = o.reached;
-        })
+    named : (n : ℕ) → Offer (turned p q m) Property s bound n → n ≡ q
+    named n o = sym o.stands ∙ (origin_from_turned o.triple o.held o.fit).named
 
-    pub leapt_object : (r : Option ℕ) → Leapt m.has Subject w bound r
-        → Leapt (turned p q m) Object s bound r
-    leapt_object = leapt_like (turned p q m) m.has Object Subject s w bound
-        (λ n o. let from = origin_from_turned o.triple o.held o.fit in record {
-          triple = flip p o.triple;
-          held = from.held;
-          fit = from.fit;
-          stands = o.stands;
-          reached = o.reached;
-        })
-        (λ n o. record {
-          triple = flip q o.triple;
-          held = turned_held o.triple o.held o.fit;
-          fit = turned_fit o.triple o.fit;
-          stands = o.stands;
-          reached = o.reached;
-        })
-
-    pub leapt_property : (r : Option Triple) → Sought m.has w origin r → bound ≤ q → true ≡ is_some r
-        → Lowest (turned p q m) Property s bound q
-    leapt_property None none k e = absurd (true≢false e)
-    leapt_property (Some u) found k e = record {
-      offer = record {
-        triple = flip q u;
-        held = turned_held u found.candidate.held found.candidate.fit;
-        fit = turned_fit u found.candidate.fit;
-        stands = refl;
-        reached = k;
-      };
-      first = λ n o. let named = (origin_from_turned o.triple o.held o.fit).named in
-          omega (arith, named, o.stands);
-    }
-
-    pub leapt_property_none : (r : Option Triple) → Sought m.has w origin r → false ≡ is_some r
-        → Leapt (turned p q m) Property s bound None
-    leapt_property_none (Some u) found e = absurd (true≢false (sym e))
-    leapt_property_none None none e = λ n o.
+    sought_property : (r : Option Triple) → Sought m.has w origin r → bound ≤ q
+        → Leapt (turned p q m) Property s bound (then_some (is_some r) q)
+    sought_property None none h = λ n o.
         let from = origin_from_turned o.triple o.held o.fit in
         none (flip p o.triple) (record {
           held = from.held;
           fit = from.fit;
           reached = origin_reached (flip p o.triple);
         })
+    sought_property (Some u) found h = record {
+      offer = record {
+        triple = flip q u;
+        held = turned_held u found.candidate.held found.candidate.fit;
+        fit = turned_fit u found.candidate.fit;
+        stands = refl;
+        reached = h;
+      };
+      first = λ n o. let is = named n o in omega (arith, is);
+    }
+
+  -- what the store answered, which still means m, at the position asked
+  module _ (bound : ℕ) {now : Meaning} (same : now ≡ m) {k : Position} where
+    -- a number at i of a triple is one at j of the turned triple, and the other way round
+    leapt_turned : (j i : Position) → ((n : ℕ) (t : Triple) → value_at i (flip n t) ≡ value_at j t)
+        → ((n : ℕ) (t : Triple) → value_at j (flip n t) ≡ value_at i t) → k ≡ j → (r : Option ℕ)
+        → Leapt now.has i w bound r → Leapt (turned p q m) k s bound r
+    leapt_turned j i there back e r l =
+        subst (λ x. Leapt (turned p q m) x s bound r) (sym e)
+        (leapt_like (turned p q m) m.has j i s w bound
+        (λ n o. let from = origin_from_turned o.triple o.held o.fit in record {
+          triple = flip p o.triple;
+          held = from.held;
+          fit = from.fit;
+          stands = there p o.triple ∙ o.stands;
+          reached = o.reached;
+        })
+        (λ n o. record {
+          triple = flip q o.triple;
+          held = turned_held o.triple o.held o.fit;
+          fit = turned_fit o.triple o.fit;
+          stands = back q o.triple ∙ o.stands;
+          reached = o.reached;
+        })
+        r (subst (λ (x : Meaning). Leapt x.has i w bound r) same l))
+
+    pub leapt_subject : k ≡ Subject → (r : Option ℕ) → Leapt now.has Object w bound r
+        → Leapt (turned p q m) k s bound r
+    leapt_subject = leapt_turned Subject Object (λ n t. refl) (λ n t. refl)
+
+    pub leapt_object : k ≡ Object → (r : Option ℕ) → Leapt now.has Subject w bound r
+        → Leapt (turned p q m) k s bound r
+    leapt_object = leapt_turned Object Subject (λ n t. refl) (λ n t. refl)
+
+    pub leapt_property : k ≡ Property → (r : Option Triple) → Sought now.has w origin r → bound ≤ q
+        → Leapt (turned p q m) k s bound (then_some (is_some r) q)
+    leapt_property e r f h =
+        subst (λ x. Leapt (turned p q m) x s bound (then_some (is_some r) q)) (sym e)
+        (sought_property bound r (subst (λ (x : Meaning). Sought x.has w origin r) same f) h)
 
   -- seek
 
@@ -174,12 +180,12 @@ module _ (m : Meaning) (p q : ℕ) (s w : Selector) (one : 1 ≤ p)
           reached = reached_object q s start bound t low known c.fit from.named c.reached;
         }
 
-    pub sought_object_none : Leapt m.has Subject w bound None → Sought (turned p q m) s start None
-    sought_object_none none t c = none t.object (offer_of_candidate t c)
+    sought_none : Leapt m.has Subject w bound None → Sought (turned p q m) s start None
+    sought_none none t c = none t.object (offer_of_candidate t c)
 
-    pub sought_object : (x : ℕ) → Lowest m.has Subject w bound x
+    least_subject : (x : ℕ) → Lowest m.has Subject w bound x
         → Least (turned p q m) s start (record { subject = s.subject; property = q; object = x })
-    sought_object x l =
+    least_subject x l =
         let u = l.offer.triple in
         let is = swapped_subject p q m.top s w u x asked known l.offer.fit l.offer.stands in
         record {
@@ -192,3 +198,30 @@ module _ (m : Meaning) (p q : ℕ) (s w : Selector) (one : 1 ≤ p)
               let named = (origin_from_turned t c.held c.fit).named in
               least_object q s t x known c.fit named (l.first t.object (offer_of_candidate t c));
         }
+
+    pub sought_object_none : {now : Meaning} → now ≡ m → Leapt now.has Subject w bound None
+        → Sought (turned p q m) s start None
+    sought_object_none same l =
+        sought_none (subst (λ (x : Meaning). Leapt x.has Subject w bound None) same l)
+
+    pub sought_object : {now : Meaning} → now ≡ m → (x : ℕ) → Lowest now.has Subject w bound x
+        → Least (turned p q m) s start (record { subject = s.subject; property = q; object = x })
+    sought_object same x l =
+        least_subject x (subst (λ (n : Meaning). Lowest n.has Subject w bound x) same l)
+
+-- a layer that stands for what another one stands for has its turned triples
+pub same_turned : {S : Type 0} {meaning : S → Meaning} {old new : Inverse S} → SameLayer meaning old new
+    → turned_of meaning new ≡ turned_of meaning old
+same_turned {meaning = meaning} {old = old} {new = new} s =
+    ap (λ (t : Turn). turned t.property t.inverse (meaning new.below)) s.turn
+    ∙ ap (turned old.turn.property old.turn.inverse) s.below
+
+-- the least number at a position of a turned triple is a term
+pub turned_term : {S : Type 0} (meaning : S → Meaning) (layer : Inverse S) (p : Position) (s : Selector)
+    (from n : ℕ) → Sound (meaning layer.below) → Lowest (turned_of meaning layer) p s from n
+    → (1 ≤ n) × (n ≤ largest_top)
+turned_term meaning layer p s from n sound =
+    let m = meaning layer.below in
+    let t = layer.turn in
+    lowest_term (record { top = m.top; has = turned_of meaning layer }) p s from n
+    (sound_turned t.property t.inverse m t.named sound)

@@ -1,20 +1,22 @@
 -- Laws of a store without some triples. Assumes nothing.
-use Rattle.std.proofs.Common.{◌≡◌, ℕ, ◌+◌, ◌*◌, ◌^◌, ◌<◌, ◌≤◌, min, Bool, true, false, cond, not, ◌&&◌, ◌||◌}
-use Rattle.std.proofs.Common.{ltb, List, [], ◌∷◌, ◌++◌, length, is_some, Some, None, Ok, Option, sym, refl}
-use Rattle.std.proofs.Common.{ap, ◌∙◌, ⊎_elim, arith}
+use Rattle.std.proofs.Common.{◌≡◌, ℕ, ◌+◌, ◌≤◌, Bool, true, false, cond, not, ◌&&◌, ◌||◌}
+use Rattle.std.proofs.Common.{ltb, List, [], ◌∷◌, ◌++◌, length, is_ok, is_some, Some, None, Option, Result}
+use Rattle.std.proofs.Common.{sym, refl, ap, ◌∙◌, ⊎_elim, arith}
 use mathlib.Core.Path.{fun_ext}
 use Rattle.std.proofs.lemmas.Bool.{true≢false, cases_Bool, cases_eq, both_ways, not-true, not_from_false}
-use Rattle.std.proofs.lemmas.Bool.{and_parts, and_from, cond-true, cond-false, lt-ltb}
-use Rattle.std.proofs.lemmas.Bool.Decides.{nat_tests}
+use Rattle.std.proofs.lemmas.Bool.{and_parts, and_from, cond-true, cond-false}
 use Rattle.refusal.specs.declared.refusal.Refusal.TheVariants.{AlreadyWithdrawn, NotStored, WithdrawnFull}
+use Rattle.refusal.specs.declared.rejection.Rejection.{Rejection}
 use Rattle.triples.specs.declared.position.Position.{Position}
 use Rattle.triples.specs.declared.selector.Selector.{Selector}
 use Rattle.triples.specs.declared.triple.Triple.{Triple}
-use Rattle.triples.specs.Meaning.{Meaning, Terms, Sound, largest_top, among}
+use Rattle.triples.specs.Meaning.{Meaning, Sound, among}
 use Rattle.triples.specs.Order.{before, same}
 use Rattle.triples.specs.Selectors.{select}
+use Rattle.triples.specs.Succession.{behind}
 use Rattle.triples.specs.Seeks.{Candidate, Least, Sought, Offer, Lowest, Leapt}
 use Rattle.triples.proofs.Order.{upto_trans, same_is}
+use Rattle.triples.proofs.Ranks.{behind_reached, upto_behind}
 use Rattle.triples.proofs.Seeks.{origin}
 use Rattle.triples.proofs.Selectors.{select-matches, select_value, origin_reached}
 use Rattle.layers.specs.Sets.{most_withdrawn}
@@ -37,29 +39,26 @@ without_push m gone t =
     (fun_ext (λ u. ap (λ b. m.has u && not b) (among_push gone t u)
     ∙ and_not_or (m.has u) (among gone u) (same t u)))
 
-pub withdraws_yes : (m : Meaning) (gone : List Triple) (t : Triple) → among gone t ≡ false → m.has t ≡ true
-    → length gone < most_withdrawn → Withdraws m gone t (Ok tt) (gone ++ t ∷ [])
-withdraws_yes m gone t new held room = record {
-  answer = sym (ap outcome
-      (cond-false (among gone t) (Some AlreadyWithdrawn) _ new
-      ∙ cond-true (m.has t) _ (Some NotStored) held
-      ∙ cond-true (ltb (length gone) most_withdrawn) None (Some WithdrawnFull)
-      (lt-ltb (length gone) most_withdrawn room)));
-  list = refl;
-  meaning = without_push m gone t;
+without_added : (m : Meaning) (gone : List Triple) (t : Triple) (b : Bool)
+    → without m (cond b (gone ++ t ∷ []) gone) ≡ cond b (amended (without m gone) t false) (without m gone)
+without_added m gone t true = without_push m gone t
+without_added m gone t false = refl
+
+-- a triple below that is not withdrawn yet is withdrawn where there is room
+pub withdraws_room : (m : Meaning) (gone : List Triple) (t : Triple) (r : Result (Unit {0}) Rejection)
+    (later : List Triple) → among gone t ≡ false → m.has t ≡ true
+    → is_ok r ≡ ltb (length gone) most_withdrawn → r ≡ outcome (cond (is_ok r) None (Some WithdrawnFull))
+    → later ≡ cond (is_ok r) (gone ++ t ∷ []) gone → Withdraws m gone t r later
+withdraws_room m gone t r later new held room answer list = record {
+  answer = answer ∙ ap outcome
+      (ap (λ b. cond b None (Some WithdrawnFull)) room
+      ∙ sym (cond-false (among gone t) (Some AlreadyWithdrawn) _ new
+      ∙ cond-true (m.has t) _ (Some NotStored) held));
+  list = list;
+  meaning = ap (without m) list ∙ without_added m gone t (is_ok r);
 }
 
 -- seek
-
--- the triple behind t, where the objects go on
-abbrev pub behind : Triple → Triple
-behind t = record { subject = t.subject; property = t.property; object = t.object + 1 }
-
-behind_reached : (t start : Triple) → before t start ≡ false → before (behind t) start ≡ false
-behind_reached t start h = grind (arith, nat_tests)
-
-upto_behind : (t u : Triple) → before u t ≡ false → same t u ≡ false → before u (behind t) ≡ false
-upto_behind t u h k = grind (arith, nat_tests)
 
 module _ (m : Meaning) (gone : List Triple) (s : Selector) (start from : Triple) where
   -- from is not below start, and no triple between the two is sought
@@ -105,21 +104,6 @@ passed_more m gone s start from t p l away = record {
   none = λ u c. upto_behind t u (l.first u (candidate_below m gone s start from p u c))
       (different m gone s start from t u away c);
 }
-
--- n, or one more than any term where n is over that
-abbrev capped : ℕ → ℕ
-capped n = min n (largest_top + 1)
-
--- a number that rises with the start of a seek
-abbrev pub rank : Triple → ℕ
-rank t = capped t.subject * 2 ^ 64 + capped t.property * 2 ^ 32 + capped t.object
-
-pub rank_behind : (top : ℕ) (t from : Triple) → top ≤ largest_top → Terms top t → before t from ≡ false
-    → rank from < rank (behind t)
-rank_behind top t from h k e =
-    let s = k.subject.small in
-    let p = k.property.small in
-    let o = k.object.small in grind (arith, nat_tests)
 
 pub same_without : (m n : Meaning) (xs ys : List Triple) → m ≡ n → xs ≡ ys → without m xs ≡ without n ys
 same_without m n xs ys e h = ap (λ (z : Meaning). without z xs) e ∙ ap (without n) h

@@ -3,7 +3,6 @@ ghost use Rattle.layers.specs.Inverses.{with_turned};
 ghost use Rattle.layers.specs.Soundness.{sound_with_turned};
 
 use crate::inverse::Inverse;
-use crate::turning::{leap_turned, seek_turned};
 use triples::position::Position;
 use triples::selector::Selector;
 use triples::store::Store;
@@ -23,13 +22,13 @@ impl<S: Store> Store for Inverse<S> {
 
     fn seek(&mut self, selector: Selector, start: Triple) -> Option<Triple> {
         let held = self.below.seek(selector, start);
-        let turned = seek_turned(&mut self.below, self.turn, selector, start);
+        let turned = self.seek_turned(selector, start);
         least_of(held, turned)
     }
 
     fn leap(&mut self, position: Position, selector: Selector, bound: u32) -> Option<u32> {
         let held = self.below.leap(position, selector, bound);
-        let turned = leap_turned(&mut self.below, self.turn, position, selector, bound);
+        let turned = self.leap_turned(position, selector, bound);
         least_of(held, turned)
     }
 }

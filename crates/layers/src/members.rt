@@ -1,11 +1,13 @@
 //! What a small set of triples holds, and how it changes.
-ghost use Rattle.std.specs.Prelude.{◌≡◌, ◌<◌, false, [], ◌∷◌, ◌++◌, length};
+ghost use Rattle.std.specs.Prelude.{◌≡◌, cond, false, [], ◌∷◌, ◌++◌, length, is_ok, is_some, nat_lt, position};
 ghost use Rattle.triples.specs.Meaning.{among};
+ghost use Rattle.triples.specs.Order.{same};
 ghost use Rattle.layers.specs.Members.{members};
-ghost use Rattle.layers.specs.Sets.{most_withdrawn, Found, Removed};
+ghost use Rattle.layers.specs.Sets.{most_withdrawn, Removed};
 
-use crate::triple_set::{MOST_WITHDRAWN, TripleSet};
-use triples::triple::{ORIGIN, Triple};
+use crate::triple_set::TripleSet;
+use arrayvec::{ArrayVec, CapacityError};
+use triples::triple::Triple;
 
 impl TripleSet {
     /// A set with no triple.
@@ -13,8 +15,7 @@ impl TripleSet {
         ensures { members result ≡ [] }
     {
         TripleSet {
-            entries: [ORIGIN; MOST_WITHDRAWN],
-            count: 0,
+            triples: ArrayVec::new(),
         }
     }
 
@@ -22,48 +23,38 @@ impl TripleSet {
     pub(crate) fn len(&self) -> usize
         ensures { result ≡ length (members self.now) }
     {
-        self.count
+        self.triples.len()
     }
 
     /// The place of the triple among the members, if it is one.
     fn place_of(&self, triple: Triple) -> Option<usize>
-        ensures { Found (members self.now) triple result }
+        ensures { result ≡ position (λ t. same t triple) (members self.now) }
     {
-        for i in 0..self.count {
-            if self.entries[i].is_same(triple) {
-                return Some(i);
-            }
-        }
-        None
+        self.triples.as_slice().iter().position(|t| *t == triple)
     }
 
     /// Whether the triple is a member.
     pub(crate) fn has(&self, triple: Triple) -> bool
         ensures { result ≡ among (members self.now) triple }
     {
-        self.place_of(triple).is_some()
+        self.triples.as_slice().contains(&triple)
     }
 
-    /// Puts in a triple that is no member, where there is room.
-    pub(crate) fn add(&mut self, triple: Triple)
-        requires fresh { among (members self.old) triple ≡ false }
-        requires room { length (members self.old) < most_withdrawn }
-        ensures { members self.new ≡ members self.old ++ triple ∷ [] }
+    /// Puts in a triple that is no member; it comes back where there is no room.
+    pub(crate) fn add(&mut self, triple: Triple) -> Result<(), CapacityError<Triple>>
+        requires { among (members self.old) triple ≡ false }
+        ensures room { is_ok result ≡ nat_lt (length (members self.old)) most_withdrawn }
+        ensures list { members self.new
+            ≡ cond (is_ok result) (members self.old ++ triple ∷ []) (members self.old) }
     {
-        self.entries[self.count] = triple;
-        self.count += 1;
+        self.triples.try_push(triple)
     }
 
-    /// Takes the triple out, the last member in its place; whether it was a member.
-    pub(crate) fn remove(&mut self, triple: Triple) -> bool
-        ensures { Removed (members self.old) triple result (members self.new) }
+    /// Takes the triple out, the last member in its place, if it is a member.
+    pub(crate) fn take(&mut self, triple: Triple) -> Option<Triple>
+        ensures { Removed (members self.old) triple (is_some result) (members self.new) }
     {
-        let Some(place) = self.place_of(triple) else {
-            return false;
-        };
-        let last = self.count - 1;
-        self.entries[place] = self.entries[last];
-        self.count = last;
-        true
+        let place = self.place_of(triple)?;
+        Some(self.triples.swap_remove(place))
     }
 }

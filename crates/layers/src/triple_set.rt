@@ -1,18 +1,15 @@
 //! A small set of triples, in place.
-ghost use Rattle.std.specs.Prelude.{◌≡◌, ◌≤◌, length, take};
-ghost use Rattle.layers.specs.Sets.{most_withdrawn, Once};
+ghost use Rattle.layers.specs.Sets.{Once};
 
+use arrayvec::ArrayVec;
 use triples::triple::Triple;
 
 /// The most triples that can be withdrawn at a time.
 pub const MOST_WITHDRAWN: usize = 256;
 
-/// Up to 256 triples, no two the same: the first `count` of the entries.
+/// Up to 256 triples, no two the same.
 #[derive(Drop)]
 pub(crate) struct TripleSet {
-    pub(crate) entries: [Triple; MOST_WITHDRAWN],
-    pub(crate) count: usize,
-    ghost full: { length entries ≡ most_withdrawn },
-    ghost few: { count ≤ most_withdrawn },
-    ghost once: { Once (take count entries) },
+    pub(crate) triples: ArrayVec<Triple, MOST_WITHDRAWN>,
+    ghost once: { Once triples.items },
 }

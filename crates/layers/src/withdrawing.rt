@@ -3,7 +3,7 @@ ghost use Rattle.std.specs.Prelude.{◌≡◌, [], length};
 ghost use Rattle.layers.specs.Members.{members};
 ghost use Rattle.layers.specs.Withdrawals.{without, Withdraws, Restores};
 
-use crate::triple_set::{MOST_WITHDRAWN, TripleSet};
+use crate::triple_set::TripleSet;
 use crate::withdrawn::Withdrawn;
 use refusal::refusal::Refusal;
 use refusal::rejection::Rejection;
@@ -23,10 +23,7 @@ fn is_held<S: Store>(store: &mut S, triple: Triple) -> bool
     ensures answer { result ≡ (S.Store.meaning store.old).has triple }
     ensures same { S.Store.meaning store.new ≡ S.Store.meaning store.old }
 {
-    match store.seek(EVERY, triple) {
-        Some(found) => found.is_same(triple),
-        None => false,
-    }
+    store.seek(EVERY, triple) == Some(triple)
 }
 
 impl<S: Store> Withdrawn<S> {
@@ -54,8 +51,7 @@ impl<S: Store> Withdrawn<S> {
     pub fn into_below(self) -> S
         ensures { result ≡ self.below }
     {
-        let Withdrawn { below, gone: _ } = self;
-        below
+        self.below
     }
 
     /// Withdraws the triple: it, and nothing else, is out of the meaning. Refused with 21 where it is
@@ -72,11 +68,9 @@ impl<S: Store> Withdrawn<S> {
         if !is_held(&mut self.below, triple) {
             return Err(Rejection::unplaced(Refusal::NotStored));
         }
-        if self.count() >= MOST_WITHDRAWN {
-            return Err(Rejection::unplaced(Refusal::WithdrawnFull));
-        }
-        self.gone.add(triple);
-        Ok(())
+        self.gone
+            .add(triple)
+            .map_err(|_| Rejection::unplaced(Refusal::WithdrawnFull))
     }
 
     /// Puts the triple back: it is in the meaning if it is in the store below, and nothing else changes.
@@ -86,10 +80,9 @@ impl<S: Store> Withdrawn<S> {
             (members self.old.gone) triple result (members self.new.gone) }
         ensures same { self.new.below ≡ self.old.below }
     {
-        if self.gone.remove(triple) {
-            Ok(())
-        } else {
-            Err(Rejection::unplaced(Refusal::NotWithdrawn))
-        }
+        self.gone
+            .take(triple)
+            .ok_or(Rejection::unplaced(Refusal::NotWithdrawn))?;
+        Ok(())
     }
 }

@@ -1,6 +1,4 @@
 //! The store below without what is withdrawn, as a store.
-ghost use Rattle.std.specs.Prelude.{◌≡◌, ◌+◌, ◌≤◌};
-ghost use Rattle.triples.specs.Meaning.{largest_top};
 ghost use Rattle.layers.specs.Members.{members};
 ghost use Rattle.layers.specs.Soundness.{sound_without};
 ghost use Rattle.layers.specs.Withdrawals.{without};
@@ -10,14 +8,6 @@ use triples::position::Position;
 use triples::selector::Selector;
 use triples::store::Store;
 use triples::triple::{ORIGIN, Triple};
-
-/// The number behind one that may be a term.
-fn after(number: u32) -> u32
-    requires { number ≤ largest_top }
-    ensures { result ≡ number + 1 }
-{
-    number + 1
-}
 
 /// The store below without the withdrawn triples, under the same top.
 impl<S: Store> Store for Withdrawn<S> {
@@ -34,33 +24,25 @@ impl<S: Store> Store for Withdrawn<S> {
     fn seek(&mut self, selector: Selector, start: Triple) -> Option<Triple> {
         let mut from = start;
         // Kept: no triple between the start and this one is an answer.
-        loop {
-            let Some(found) = self.below.seek(selector, from) else {
-                return None;
-            };
+        while let Some(found) = self.below.seek(selector, from) {
             if !self.gone.has(found) {
                 return Some(found);
             }
-            from = Triple {
-                subject: found.subject,
-                property: found.property,
-                object: after(found.object),
-            };
+            from = found.behind();
         }
+        None
     }
 
     /// Asks the store below again behind each number of which all triples are withdrawn.
     fn leap(&mut self, position: Position, selector: Selector, bound: u32) -> Option<u32> {
         let mut from = bound;
         // Kept: no number between the bound and this one is an answer.
-        loop {
-            let Some(number) = self.below.leap(position, selector, from) else {
-                return None;
-            };
+        while let Some(number) = self.below.leap(position, selector, from) {
             if self.seek(selector.with(position, number), ORIGIN).is_some() {
                 return Some(number);
             }
-            from = after(number);
+            from = number + 1;
         }
+        None
     }
 }

@@ -12,14 +12,14 @@ use Rattle.triples.specs.Meaning.{Meaning, Sound}
 use Rattle.triples.specs.Order.{before, same}
 use Rattle.triples.specs.Selectors.{matches}
 use Rattle.triples.specs.Seeks.{Candidate, Least}
+use Rattle.triples.specs.Succession.{behind}
+use Rattle.triples.proofs.Ranks.{before_behind, before_behind_upto, same_from_behind}
 use Rattle.triples.proofs.Selectors.{origin_reached}
 use Rattle.triples.proofs.Seeks.{origin}
 use Rattle.trace.specs.Levels.{From, Visited, Level}
 use Rattle.trace.specs.Marks.{unmarked, Noted, Gathered}
 use Rattle.trace.specs.Steps.{Step}
-use Rattle.trace.specs.Succession.{behind}
 use Rattle.trace.proofs.Marks.{gathered_like, gathered_more, gathered_shuffled}
-use Rattle.trace.proofs.Succession.{before_behind, before_behind_upto, same_from_behind}
 
 -- subjects
 

@@ -1,6 +1,5 @@
 -- Read in this order.
 pub mod Seeks  -- stores that mean the same
-pub mod Succession  -- the triple right behind another, and how much room is left there
 pub mod Scans  -- a scan goes on and ends
 pub mod Lists  -- numbers that stand in a list once
 pub mod Marks  -- what is gathered goes on, and is put in order

@@ -10,12 +10,12 @@ use Rattle.triples.specs.declared.triple.Triple.{Triple}
 use Rattle.triples.specs.Meaning.{among}
 use Rattle.triples.specs.Order.{before, same}
 use Rattle.triples.specs.Seeks.{Candidate, Least}
+use Rattle.triples.specs.Succession.{behind}
+use Rattle.triples.proofs.Ranks.{before_behind, before_behind_upto, same_from_behind}
 use Rattle.triples.proofs.Order.{before_upto}
 use Rattle.triples.proofs.Seeks.{origin}
 use Rattle.triples.proofs.Selectors.{origin_reached}
 use Rattle.trace.specs.Scans.{Match, Ascending, Scanned}
-use Rattle.trace.specs.Succession.{behind}
-use Rattle.trace.proofs.Succession.{before_behind, before_behind_upto, same_from_behind}
 
 -- among
 

@@ -1,5 +1,4 @@
 -- Read in this order.
-pub mod Succession  -- the triple right behind another
 pub mod Scans  -- the triples that match
 pub mod Steps  -- what a term reaches, and in which order
 pub mod Marks  -- numbers gathered and marked

@@ -1,7 +1,6 @@
 //! What a store's triples tell: those that match a selector, and the terms that a term reaches.
 #![tactic(auto)]
 
-mod behind;
 mod level;
 pub mod scan;
 pub mod trace;

@@ -2,8 +2,8 @@
 ghost use Rattle.std.specs.Prelude.{◌≡◌, IfOk};
 ghost use Rattle.trace.specs.Scans.{Scanned};
 
-use crate::behind::behind;
 use std::alloc::{AllocError, Global};
+use triples::matches::Matches;
 use triples::selector::Selector;
 use triples::store::Store;
 use triples::triple::{ORIGIN, Triple};
@@ -19,10 +19,8 @@ pub fn scan<S: Store>(
     ensures same { S.Store.meaning store.new ≡ S.Store.meaning store.old }
 {
     let mut found = Vec::new(heap);
-    let mut start = ORIGIN;
-    while let Some(triple) = store.seek(selector, start) {
+    for triple in Matches::new(store, selector, ORIGIN) {
         found.push(triple)?;
-        start = behind(triple);
     }
     Ok(found)
 }

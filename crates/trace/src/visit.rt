@@ -3,8 +3,8 @@ ghost use Rattle.std.specs.Prelude.{◌≡◌, ◌<◌, length, IfOk};
 ghost use Rattle.trace.specs.Levels.{Visited};
 ghost use Rattle.trace.specs.Marks.{Noted};
 
-use crate::behind::behind;
 use std::alloc::AllocError;
+use triples::matches::Matches;
 use triples::selector::{ANY, Selector};
 use triples::store::Store;
 use triples::triple::ORIGIN;
@@ -43,10 +43,8 @@ pub(crate) fn visit<S: Store>(
         property: ANY,
         object: ANY,
     };
-    let mut start = ORIGIN;
-    while let Some(triple) = store.seek(selector, start) {
+    for triple in Matches::new(store, selector, ORIGIN) {
         note(triple.object, seen, found)?;
-        start = behind(triple);
     }
     Ok(())
 }

@@ -3,6 +3,7 @@ pub mod Lists  -- elements read from a list
 pub mod Order  -- laws of the order of triples
 pub mod Selectors  -- what a selector and one seek tell
 pub mod Seeks  -- laws of seek and leap
+pub mod Ranks  -- the triple right behind another, and a rank that rises there
 pub mod Unions  -- two sets taken together
 pub mod Meaning  -- laws of being an element of a list
 pub mod Finding  -- laws of searching an ordered list

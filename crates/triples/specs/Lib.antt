@@ -1,9 +1,11 @@
 -- Read in this order.
 pub mod Order  -- how triples compare
+pub mod Succession  -- the triple right behind another
 pub mod Selectors  -- which triples a selector matches
 pub mod Meaning  -- what a store stands for
 pub mod Seeks  -- what seek and leap answer
 pub mod Text  -- a triple as text
+pub mod Matching  -- from one match to the next
 pub mod Unions  -- two sets taken together
 pub mod Ascent  -- strictly ascending lists
 pub mod Tables  -- lists of elements that stand for triples

@@ -4,6 +4,7 @@
 pub mod ascent;
 mod element;
 pub mod entry;
+pub mod matches;
 pub mod pair;
 pub mod position;
 pub mod property_load;
@@ -15,6 +16,7 @@ pub mod row_store;
 mod run;
 pub mod selector;
 pub mod store;
+pub mod succession;
 mod table;
 pub mod text;
 pub mod theorems;

@@ -1,14 +1,13 @@
--- The store means what it meant, the start is near the terms, and what is found are the matches before it.
+-- The store means what it meant, and what is found are the matches before the start of what is left.
 use Rattle.std.proofs.Common.{◌≡◌, vec_items}
 use Rattle.trace.proofs.Scans.{ScannedTo}
-use Rattle.trace.proofs.Succession.{Near, room}
 use Rattle.trace.proofs.scan.scan.Given as goal
 
 abbrev pub invariant-loop-triple : goal.invariant-loop-triple
 invariant-loop-triple g l =
-    (g.S.Store.meaning l.store ≡ g.S.Store.meaning l.initial.store)
-    × Near l.start
-    × ScannedTo (g.S.Store.meaning l.initial.store).has l.selector l.start (vec_items l.found)
-
-abbrev pub decreases-loop-triple : goal.decreases-loop-triple
-decreases-loop-triple g l = room l.start
+    let first = l.initial.triple-iterator in
+    (l.triple-iterator.store.ghost_name ≡ first.store.ghost_name)
+    × (g.S.Store.meaning l.triple-iterator.store.now ≡ g.S.Store.meaning first.store.now)
+    × (l.triple-iterator.selector ≡ first.selector)
+    × ScannedTo (g.S.Store.meaning first.store.now).has first.selector l.triple-iterator.start
+    (vec_items l.found)

@@ -1,13 +1,13 @@
--- Each object is noted, and the visit goes on right behind its triple.
-use Rattle.std.proofs.Common.{vec_items, refl, ◌∙◌, arith, rules}
-use Rattle.std.proofs.lemmas.Result.{IfOk-from_err}
+-- Each object is noted.
+use Rattle.std.proofs.Common.{◌≡◌, vec_items, sym, refl, ap, ◌∙◌, subst, arith, rules}
+use Rattle.triples.specs.declared.triple.Triple.{Triple}
 use Rattle.triples.specs.Seeks.{Least}
-use Rattle.trace.proofs.Levels.{of_subject, object_below}
+use Rattle.triples.proofs.Seeks.{origin}
+use Rattle.trace.proofs.Levels.{VisitedTo, of_subject, object_below}
 use Rattle.trace.proofs.Levels.{visited_none, visited_more, visited_all, visited_zero}
-use Rattle.trace.proofs.Seeks.{least_like, none_like}
-use Rattle.trace.proofs.Succession.{near_origin, near_next, object_small, room_next}
+use Rattle.trace.proofs.Seeks.{least_of, none_of}
 use Rattle.trace.proofs.visit.visit.Given.{Over}
-use Rattle.trace.proofs.visit.visit.Goals.{In_ok-note}
+use Rattle.trace.proofs.visit.visit.Goals.{In-Some}
 use Rattle.trace.proofs.visit.visit.Goals as goal
 
 pub returns-then-term-eq-ANY : goal.returns-then-term-eq-ANY
@@ -21,55 +21,51 @@ returns-then-term-eq-ANY g c =
 
 pub loop-triple-init : goal.loop-triple-init
 loop-triple-init g c =
+    let first = c.into_iter-triple-iterator.result in
+    let store : g.S.Store.meaning first.store.now ≡ g.S.Store.meaning c.args.store.now = search rules in
+    let selector : first.selector ≡ of_subject c.args.term = search rules in
+    let start : first.start ≡ origin = search rules in
     let has = (g.S.Store.meaning c.args.store.now).has in
-    let found = vec_items c.args.found.now in
-    (refl, near_origin, visited_none has c.args.term c.args.seen.now found)
+    let seen = c.args.seen.now in
+    let found = vec_items c.args.found.now in (
+      refl,
+      store,
+      selector,
+      subst (λ (s : Triple). VisitedTo has c.args.term s seen found seen found) (sym start)
+          (visited_none has c.args.term seen found),
+    )
+
+-- the triple given is the least one of the term from the start on, of the store as it was at first
+least : (g : Over) (c : In-Some g)
+    → Least (g.S.Store.meaning c.args.store.now).has (of_subject c.args.term)
+    c.loop-triple.triple-iterator.start c.in-Some.triple
+least g c =
+    least_of c.loop-triple.invariant.1 c.loop-triple.invariant.2 c.in-Some.ensures.steps.answer
 
 pub note-requires : goal.note-requires
 note-requires g c =
     let first = c.args.store.now in
     object_below (g.S.Store.meaning first) (g.S.Store.sound first)
-    (least_like c.loop-triple.invariant.0 c.in-Some.ensures.answer).candidate
-    c.loop-triple.auto.seen c.requires
-
--- what seek found is the least triple of the term from the start on, also for the store as it was at first
-least : (g : Over) (c : In_ok-note g)
-    → Least (g.S.Store.meaning c.args.store.now).has (of_subject c.args.term)
-    c.loop-triple.start c.in-Some.triple
-least g c = least_like c.loop-triple.invariant.0 c.in-Some.ensures.answer
-
-pub returns-in_err-note : goal.returns-in_err-note
-returns-in_err-note g c = search (rules, IfOk-from_err)
-
-pub behind-start-requires : goal.behind-start-requires
-behind-start-requires g c =
-    let first = c.args.store.now in
-    object_small (g.S.Store.meaning first) (g.S.Store.sound first) (least g c).candidate
-
-pub loop-triple-smaller : goal.loop-triple-smaller
-loop-triple-smaller g c =
-    let first = c.args.store.now in
-    let found = (least g (goal.at.loop-triple-smaller g c).In_ok-note).candidate in
-    room_next (g.S.Store.meaning first) (g.S.Store.sound first) found c.behind-start.ensures
-    c.loop-triple.invariant.1
+    (least g (goal.at.note-requires g c).In-Some).candidate c.loop-triple.auto.seen c.requires
 
 pub loop-triple-preserved : goal.loop-triple-preserved
 loop-triple-preserved g c =
     let first = c.args.store.now in
     let m = g.S.Store.meaning first in
-    let sound = g.S.Store.sound first in
-    let found = least g (goal.at.loop-triple-preserved g c).In_ok-note in
-    let some = c.if-term-eq-ANY.false in (
-      c.seek.ensures.same ∙ c.loop-triple.invariant.0,
-      near_next m sound found.candidate c.behind-start.ensures,
-      visited_more m.has c.args.term (omega arith) found c.behind-start.ensures
-          (object_below m sound found.candidate c.loop-triple.auto.seen c.requires)
-          c.in_ok-note.ensures c.loop-triple.invariant.2,
+    let found = least g (goal.at.loop-triple-preserved g c).In-Some in
+    let some = c.if-term-eq-ANY.false in
+    let step = c.in-Some.ensures.steps in
+    let i = c.loop-triple.invariant in (
+      step.reference ∙ i.0,
+      step.same ∙ i.1,
+      step.selector ∙ i.2,
+      visited_more m.has c.args.term (omega arith) found step.start
+          (object_below m (g.S.Store.sound first) found.candidate c.loop-triple.auto.seen c.requires)
+          c.in_ok-note.ensures i.3,
     )
 
-pub returns : goal.returns
-returns g c = record {
-  answer = visited_all (g.S.Store.meaning c.args.store.now).has c.args.term
-      (none_like c.loop-triple.invariant.0 c.in_default.ensures.answer) c.loop-triple.invariant.2;
-  same = c.seek.ensures.same ∙ c.loop-triple.invariant.0;
-}
+pub returns-clause-answer : goal.returns-clause-answer
+returns-clause-answer g c =
+    let i = c.loop-triple.invariant in
+    visited_all (g.S.Store.meaning c.args.store.now).has c.args.term
+    (none_of i.1 i.2 c.in-None.ensures.steps.answer) i.3

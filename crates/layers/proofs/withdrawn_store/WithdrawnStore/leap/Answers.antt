@@ -1,6 +1,6 @@
 -- A number of which all triples are withdrawn is passed, another is the answer. Long, since the layer changes
 -- inside twice in a turn, at the leap below and at the seek, and each time stands for what it stood for.
-use Rattle.std.proofs.Common.{◌≡◌, ◌≤◌, None, sym, refl, ◌∙◌, subst, subst₂, arith}
+use Rattle.std.proofs.Common.{◌≡◌, ◌+◌, ◌≤◌, None, sym, refl, ◌∙◌, subst, subst₂, arith}
 use Rattle.triples.specs.Meaning.{Meaning, largest_top}
 use Rattle.triples.specs.Seeks.{Sought, Leapt, Lowest}
 use Rattle.triples.specs.Selectors.{select}
@@ -34,18 +34,13 @@ same_leapt g c =
     same_without (g.S.Store.meaning c.leap.new.self)
     (g.S.Store.meaning c.loop-number.self.below) gone gone c.leap.ensures.same refl
 
-pub returns-in_default : goal.returns-in_default
-returns-in_default g c =
-    let at = (goal.at.returns-in_default g c).After-leap in
-    record {
-      answer = subst
-          (λ (m : Meaning). Leapt m.has c.args.position c.args.selector c.args.bound None)
-          c.loop-number.invariant.0
-          (leapt_past_all (g.S.Store.meaning c.loop-number.self.below)
-          (members c.loop-number.self.gone) c.args.position c.args.selector c.args.bound
-          c.loop-number.from (past g at) c.in_default.ensures.answer);
-      same = same_leapt g at ∙ c.loop-number.invariant.0;
-    }
+pub returns-clause-answer : goal.returns-clause-answer
+returns-clause-answer g c =
+    let at = (goal.at.returns-clause-answer g c).After-leap in
+    subst (λ (m : Meaning). Leapt m.has c.args.position c.args.selector c.args.bound None)
+    c.loop-number.invariant.0
+    (leapt_past_all (g.S.Store.meaning c.loop-number.self.below) (members c.loop-number.self.gone)
+    c.args.position c.args.selector c.args.bound c.loop-number.from (past g at) c.in_default.ensures.answer)
 
 -- what the seek says of the layer as it is when the turn begins
 sought : (g : Over) (c : goal.After-is_some g)
@@ -55,21 +50,16 @@ sought g c =
     subst₂ (λ (m : Meaning) k. Sought m.has k origin c.seek.result)
     (same_leapt g (goal.at.After-is_some g c).After-leap) c.with.ensures c.seek.ensures.answer
 
-pub returns-then-is_some : goal.returns-then-is_some
-returns-then-is_some g c =
-    let at = (goal.at.returns-then-is_some g c).After-leap in
+pub returns-then-is_some-clause-answer : goal.returns-then-is_some-clause-answer
+returns-then-is_some-clause-answer g c =
+    let at = goal.at.returns-then-is_some-clause-answer g c in
     let below = c.loop-number.self.below in
-    let number = c.in-Some.number in
-    record {
-      answer = subst
-          (λ (m : Meaning). Lowest m.has c.args.position c.args.selector c.args.bound number)
-          c.loop-number.invariant.0
-          (leapt_past_found (g.S.Store.meaning below) (members c.loop-number.self.gone)
-          c.args.position c.args.selector c.args.bound c.loop-number.from (past g at) number
-          c.in-Some.ensures.answer (g.S.Store.sound below) c.seek.result
-          (sought g (goal.at.returns-then-is_some g c).After-is_some) c.if-is_some.ensures);
-      same = c.seek.ensures.same ∙ same_leapt g at ∙ c.loop-number.invariant.0;
-    }
+    subst (λ (m : Meaning). Lowest m.has c.args.position c.args.selector c.args.bound c.in-Some.number)
+    c.loop-number.invariant.0
+    (leapt_past_found (g.S.Store.meaning below) (members c.loop-number.self.gone) c.args.position
+    c.args.selector c.args.bound c.loop-number.from (past g at.After-leap) c.in-Some.number
+    c.in-Some.ensures.answer (g.S.Store.sound below) c.seek.result (sought g at.After-is_some)
+    c.if-is_some.ensures)
 
 -- the number is a term
 small : (g : Over) (c : goal.In-Some g) → c.in-Some.number ≤ largest_top
@@ -77,9 +67,6 @@ small g c =
     let below = c.loop-number.self.below in
     (lowest_term (g.S.Store.meaning below) c.args.position c.args.selector c.loop-number.from
     c.in-Some.number (g.S.Store.sound below) c.in-Some.ensures.answer).1
-
-pub after-from-requires : goal.after-from-requires
-after-from-requires g c = small g (goal.at.after-from-requires g c).In-Some
 
 pub loop-number-smaller : goal.loop-number-smaller
 loop-number-smaller g c =
@@ -93,9 +80,10 @@ pub loop-number-preserved : goal.loop-number-preserved
 loop-number-preserved g c =
     let at = (goal.at.loop-number-preserved g c).After-leap in (
       c.seek.ensures.same ∙ same_leapt g at ∙ c.loop-number.invariant.0,
-      subst₂
-          (λ (m : Meaning) n. LeaptPast m.has c.args.position c.args.selector c.args.bound n)
-          c.loop-number.invariant.0 (sym c.after-from.ensures)
+      subst
+          (λ (m : Meaning). LeaptPast m.has c.args.position c.args.selector c.args.bound
+          (c.in-Some.number + 1))
+          c.loop-number.invariant.0
           (leapt_past_more (g.S.Store.meaning c.loop-number.self.below)
           (members c.loop-number.self.gone) c.args.position c.args.selector c.args.bound
           c.loop-number.from (past g at) c.in-Some.number c.in-Some.ensures.answer

@@ -1,8 +1,9 @@
 -- The meaning below and the withdrawn triples are as they were, and no triple before this start is sought.
 -- Each turn the start moves up.
-use Rattle.std.proofs.Common.{◌≡◌, ◌-◌, ◌^◌}
+use Rattle.std.proofs.Common.{◌≡◌}
+use Rattle.triples.specs.Matching.{ahead}
 use Rattle.layers.specs.Members.{members}
-use Rattle.layers.proofs.Withdrawals.{Passed, rank}
+use Rattle.layers.proofs.Withdrawals.{Passed}
 use Rattle.layers.proofs.withdrawn_store.WithdrawnStore.seek.Given as goal
 
 abbrev pub invariant-loop-found : goal.invariant-loop-found
@@ -13,4 +14,4 @@ invariant-loop-found g l =
     l.initial.from l.from
 
 abbrev pub decreases-loop-found : goal.decreases-loop-found
-decreases-loop-found g l = 2 ^ 100 - rank l.from
+decreases-loop-found g l = ahead l.from
