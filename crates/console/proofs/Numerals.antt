@@ -1,6 +1,6 @@
 -- Laws of numbers: what the digits still to come can say. Assumes nothing.
-use Rattle.std.proofs.Common.{◌≡◌, ℕ, ◌+◌, ◌*◌, ◌<◌, leb, ltb, cond, List, [], ◌∷◌, length, Some, None, Option, sym, refl, arith}
-use Rattle.std.proofs.Common.{option_and_then}
+use Rattle.std.proofs.Common.{◌≡◌, ℕ, ◌+◌, ◌*◌, ◌<◌, leb, ltb, cond, List, [], ◌∷◌, length, Some, None}
+use Rattle.std.proofs.Common.{Option, sym, refl, arith, option_and_then}
 use Rattle.std.proofs.lemmas.Bool.{cond-false, cond_both, lt-leb, ltb-false}
 use Rattle.std.specs.Option.{MatchOption}
 use Rattle.console.proofs.Folds.{folded}
@@ -28,8 +28,9 @@ limited_digit : (most n : ℕ) (cs : List ℕ) (m : Option ℕ) → most < 42949
 limited_digit most n cs None few more = refl
 limited_digit most n cs (Some d) few more =
     cond_both (ltb (10 * n + d) 4294967296) (Some (10 * n + d)) None
-    (λ o. limited most (option_and_then (λ k. folded followed k cs) o) ≡ limited most (number_after (10 * n + d) cs))
-    (λ _. more (10 * n + d)) (λ full. sym (limited_great most cs (10 * n + d) (omega (arith, ltb-false))))
+    (λ o. limited most (option_and_then (λ k. folded followed k cs) o)
+    ≡ limited most (number_after (10 * n + d) cs)) (λ _. more (10 * n + d))
+    (λ full. sym (limited_great most cs (10 * n + d) (omega (arith, ltb-false))))
 
 -- with 32 bits for a number, digits say the same number up to most
 pub limited_folded : (most : ℕ) → most < 4294967296 → (cs : List ℕ) (n : ℕ)

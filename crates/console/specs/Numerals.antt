@@ -29,4 +29,5 @@ number_from most (c ∷ cs) = limited most (number_after 0 (c ∷ cs))
 
 -- the number n with the digit c behind its own; none where c is no digit, or the number has more than 32 bits
 abbrev pub followed : ℕ → ℕ → Option ℕ
-followed n c = option_and_then (λ d. cond (nat_lt (10 * n + d) 4294967296) (Some (10 * n + d)) None) (digit_value c)
+followed n c =
+    option_and_then (λ d. cond (nat_lt (10 * n + d) 4294967296) (Some (10 * n + d)) None) (digit_value c)
