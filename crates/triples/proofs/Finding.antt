@@ -1,6 +1,7 @@
 -- Laws of searching an ordered list. Assumes nothing.
 use Rattle.std.proofs.Common.{◌≡◌, ℕ, zero, suc, ◌+◌, ◌-◌, ◌<◌, ◌≤◌, true, false, cond, not, List, [], ◌∷◌}
-use Rattle.std.proofs.Common.{map, length, drop, get_or, Some, None, Option, sym, refl, ap, ◌∙◌, subst, subst₂}
+use Rattle.std.proofs.Common.{map, length, drop, get_or, Some, None, Option, sym, refl, ap, ◌∙◌, subst}
+use Rattle.std.proofs.Common.{subst₂}
 use Rattle.std.proofs.Common.{⊎_elim, arith}
 use Rattle.std.specs.Prelude.{find, take_while}
 use Rattle.std.proofs.lemmas.List.{length-drop, get_or-drop}

@@ -6,7 +6,8 @@ use Rattle.std.proofs.lemmas.Bool.{not-false}
 use Rattle.std.proofs.lemmas.Bool.Decides.{nat_tests}
 use Rattle.triples.proofs.Selectors.{passed_none}
 use Rattle.triples.proofs.Finding.{ordered_upto, ordered_dropped}
-use Rattle.std.proofs.Common.{min, not, ◌≡◌, ℕ, ◌+◌, ◌<◌, Bool, true, false, ◌||◌, leb, List, [], ◌∷◌, ◌++◌, map}
+use Rattle.std.proofs.Common.{min, not, ◌≡◌, ℕ, ◌+◌, ◌<◌, Bool, true, false, ◌||◌, leb, List, [], ◌∷◌}
+use Rattle.std.proofs.Common.{◌++◌, map}
 use Rattle.std.proofs.Common.{length, get_or, take, drop, Some, None, Option, sym, refl, ap, ◌∙◌, subst}
 use Rattle.std.proofs.Common.{⊎_elim, arith}
 use mathlib.Core.Path.{fun_ext}
@@ -175,7 +176,8 @@ module _ (p : Position) (s : Selector) (bound : ℕ) where
         let n = reach xs in
         let inside : n < length xs = omega (arith, low, high) in
         let len = length-map xs triple in
-        let stop = prefix_len_stops (λ t. not (passed s t)) (map triple xs) (triple d) (omega (arith, inside, len)) in
+        let stop = prefix_len_stops (λ t. not (passed s t)) (map triple xs) (triple d) (omega
+        (arith, inside, len)) in
         passed_none s (triple (get_or xs n d)) (triple (get_or xs k d))
         (subst (λ t. passed s t ≡ true) (get_or-map triple xs n d (triple d) inside) (not-false _ stop))
         (ordered_upto triple xs ordered n k d low high)

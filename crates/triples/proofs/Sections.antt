@@ -14,7 +14,8 @@ module _ (dir : List DirectoryEntry) (pairs : List Pair) where
   section_ordered o i h k d l =
       let xs = section dir pairs i in
       subst₂ (λ x y. before (triple_of (property_of dir i) x) (triple_of (property_of dir i) y) ≡ true)
-      (get_or_default xs k no_pair d (omega (arith, l))) (get_or_default xs (k + 1) no_pair d l) (o i k (h, l))
+      (get_or_default xs k no_pair d (omega (arith, l))) (get_or_default xs (k + 1) no_pair d l) (o i k
+      (h, l))
 
   pub sections_ordered :
       ((i : ℕ) → i < length dir → Ordered (triple_of (property_of dir i)) (section dir pairs i))

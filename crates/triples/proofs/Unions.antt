@@ -1,7 +1,8 @@
 -- What is sought or leapt to in two sets taken together is the better of the two answers. Assumes nothing.
 use Rattle.std.specs.Ordering.{ordering_then, nat_cmp}
 use Rattle.std.proofs.lemmas.Bool.Decides.{nat_tests}
-use Rattle.std.proofs.Common.{◌≡◌, refl, ℕ, Bool, ltb, ◌⊎◌, Some, None, Option, sym, subst, inl, inr, ⊎_elim, arith}
+use Rattle.std.proofs.Common.{◌≡◌, refl, ℕ, Bool, ltb, ◌⊎◌, Some, None, Option, sym, subst, inl, inr}
+use Rattle.std.proofs.Common.{⊎_elim, arith}
 use Rattle.std.proofs.lemmas.Bool.{cases_Bool, or_cases, or_left, or_right, ltb-true, ltb-false, cond-true}
 use Rattle.std.proofs.lemmas.Bool.{cond-false}
 use Rattle.triples.specs.declared.position.Position.{Position}

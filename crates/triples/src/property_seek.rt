@@ -46,9 +46,9 @@ impl PropertyStore {
         }
     }
 
-    /// The earlier of `least` and the least triple of entry `i` that matches the selector but for its property
-    /// and is not below the start. Within an entry the property is known, so its pairs are sought by subject
-    /// and object.
+    /// The earlier of `least` and the least triple of entry `i` that matches the selector but for its
+    /// property and is not below the start. Within an entry the property is known, so its pairs are sought
+    /// by subject and object.
     fn seek_entry(
         &self,
         least: Option<Triple>,
@@ -67,9 +67,9 @@ impl PropertyStore {
         least_of(least, run.seek(known, start))
     }
 
-    /// The lesser of `least` and the smallest number from the bound on at the position of a triple of entry `i`
-    /// that matches the selector but for its property. Within an entry the property is known, so one seek or
-    /// one pass over its pairs answers.
+    /// The lesser of `least` and the smallest number from the bound on at the position of a triple of entry
+    /// `i` that matches the selector but for its property. Within an entry the property is known, so one
+    /// seek or one pass over its pairs answers.
     fn leap_entry(
         &self,
         least: Option<u32>,

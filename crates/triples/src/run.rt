@@ -37,7 +37,8 @@ impl<'a, T: Element> Run<'a, T> {
 
     /// The least triple of the list that matches the selector and is not below the start.
     pub(crate) fn seek(&self, selector: Selector, start: Triple) -> Option<Triple>
-        ensures { Sought (among (map (T.Element.placed self.now.property) self.now.items.now)) selector start result }
+        ensures { Sought (among (map (T.Element.placed self.now.property) self.now.items.now))
+            selector start result }
     {
         let from = self.lower_bound(start.max(selector.into()));
         self.items[from..]
@@ -50,7 +51,8 @@ impl<'a, T: Element> Run<'a, T> {
     /// The smallest number from the bound on at the position of a triple of the list that matches, by going
     /// over the triples that may.
     fn pass_over(&self, position: Position, selector: Selector, bound: u32) -> Option<u32>
-        ensures { Leapt (among (map (T.Element.placed self.now.property) self.now.items.now)) position selector bound result }
+        ensures { Leapt (among (map (T.Element.placed self.now.property) self.now.items.now))
+            position selector bound result }
     {
         let from = self.lower_bound(selector.into());
         self.items[from..]
@@ -63,7 +65,8 @@ impl<'a, T: Element> Run<'a, T> {
 
     /// The smallest number from the bound on at the position of a triple of the list that matches.
     pub(crate) fn leap(&self, position: Position, selector: Selector, bound: u32) -> Option<u32>
-        ensures { Leapt (among (map (T.Element.placed self.now.property) self.now.items.now)) position selector bound result }
+        ensures { Leapt (among (map (T.Element.placed self.now.property) self.now.items.now))
+            position selector bound result }
     {
         match selector.aim(position, bound) {
             Some(start) => offered(self.seek(selector, start), position, bound),

@@ -56,7 +56,8 @@ impl<'a> Table<'a> {
     fn end(&self, i: usize) -> usize
         requires { i < length self.now.directory.now }
         ensures answer { result ≡ end_of self.now.directory.now (length self.now.pairs.now) i }
-        ensures within { (first_of self.now.directory.now i ≤ result) × (result ≤ length self.now.pairs.now) }
+        ensures within { (first_of self.now.directory.now i ≤ result)
+            × (result ≤ length self.now.pairs.now) }
     {
         match self.directory.get(i + 1) {
             Some(next) => next.first as usize,
@@ -75,7 +76,8 @@ impl<'a> Table<'a> {
     /// The place of a pair that is not above the one before it in its entry; none where each entry's pairs
     /// ascend.
     pub(crate) fn fall_in_entry(&self) -> Option<usize>
-        ensures { MatchOption result (SectionsOrdered self.now.directory.now self.now.pairs.now) (Fallen self.now.directory.now self.now.pairs.now) }
+        ensures { MatchOption result (SectionsOrdered self.now.directory.now self.now.pairs.now)
+            (Fallen self.now.directory.now self.now.pairs.now) }
     {
         for (i, entry) in self.directory.iter().enumerate() {
             if let Some(place) = fall(self.pairs_of(i)) {

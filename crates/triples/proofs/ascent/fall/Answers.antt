@@ -10,5 +10,6 @@ returns g c =
     ascent_found g.T.Ord.cmp xs c.find.result
     (first_from_Range _ _ _ c.find.result
     (λ i. (d : g.row.T.Denot) → is_ge (g.T.Ord.cmp (get_or xs (i - 1) d) (get_or xs i d)) ≡ true)
-    (λ i. (d : g.row.T.Denot) → is_ge (g.T.Ord.cmp (get_or xs (i - 1) d) (get_or xs i d)) ≡ false) c.find.ensures.ran
+    (λ i. (d : g.row.T.Denot) → is_ge (g.T.Ord.cmp (get_or xs (i - 1) d)
+    (get_or xs i d)) ≡ false) c.find.ensures.ran
     (λ x q k d. search rules) (λ x q k. (search rules, λ d. search rules)))

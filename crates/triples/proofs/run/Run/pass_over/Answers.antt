@@ -1,7 +1,8 @@
 use Rattle.std.proofs.Common.{not, drop, sym, ◌∙◌, subst, rules, tests}
 use Rattle.std.proofs.lemmas.Iterator.{YieldsList-from_slice, YieldsList-from_map}
 use Rattle.std.proofs.lemmas.Iterator.Adapters.{option_map_id}
-use Rattle.std.proofs.lemmas.Iterator.Consumers.{YieldsList-at, YieldsList-from_filter_map, min_from_yields_List}
+use Rattle.std.proofs.lemmas.Iterator.Consumers.{YieldsList-at, YieldsList-from_filter_map}
+use Rattle.std.proofs.lemmas.Iterator.Consumers.{min_from_yields_List}
 use Rattle.std.proofs.lemmas.Iterator.Search.{YieldsList-from_take_while}
 use Rattle.triples.specs.Selectors.{passed}
 use Rattle.triples.specs.Seeks.{Leapt}
@@ -20,7 +21,9 @@ returns g c =
     (YieldsList-from_take_while _ (λ t. not (passed c.args.selector t))
     (YieldsList-at c.take_while.ensures.source
     (YieldsList-from_map _ triple
-    (YieldsList-at c.map.ensures.source (YieldsList-from_slice (drop c.lower_bound-from.result run.items.now) (c.iter.ensures.rest ∙ taken_rest c.lower_bound-from.result run.items.now)))
+    (YieldsList-at c.map.ensures.source (YieldsList-from_slice
+    (drop c.lower_bound-from.result run.items.now)
+    (c.iter.ensures.rest ∙ taken_rest c.lower_bound-from.result run.items.now)))
     c.map.ensures.closure (λ x r q k. search rules)))
     c.take_while.ensures.closure c.take_while.ensures.done (λ x b q k. search (rules, tests))))
     c.filter_map.ensures.closure (λ x r q k. search (rules, tests))) in

@@ -19,7 +19,9 @@ returns g c =
     (YieldsList-from_take_while _ (λ t. not (passed c.args.selector t))
     (YieldsList-at c.take_while.ensures.source
     (YieldsList-from_map _ triple
-    (YieldsList-at c.map.ensures.source (YieldsList-from_slice (drop c.lower_bound-from.result run.items.now) (c.iter.ensures.rest ∙ taken_rest c.lower_bound-from.result run.items.now)))
+    (YieldsList-at c.map.ensures.source (YieldsList-from_slice
+    (drop c.lower_bound-from.result run.items.now)
+    (c.iter.ensures.rest ∙ taken_rest c.lower_bound-from.result run.items.now)))
     c.map.ensures.closure (λ x r q k. search rules)))
     c.take_while.ensures.closure c.take_while.ensures.done (λ x b q k. search (rules, tests)))
     (λ x b q k. search (rules, tests)) in
