@@ -18,6 +18,18 @@ pub or_assoc : (x y z : Bool) → ((x || y) || z) ≡ (x || (y || z))
 or_assoc true y z = refl
 or_assoc false y z = refl
 
+and_false : (x : Bool) → (x && false) ≡ false
+and_false true = refl
+and_false false = refl
+
+two_of_three : (a s x t : Bool) → ((a && (s || x)) || (t || (s && x))) ≡ (((a && s) || t) || ((a || s) && x))
+two_of_three false s x t = refl
+two_of_three true true x t = refl
+two_of_three true false true true = refl
+two_of_three true false true false = refl
+two_of_three true false false true = refl
+two_of_three true false false false = refl
+
 -- some
 
 pub some_push : {A : Type 0} (p : A → Bool) (xs : List A) (x : A) → some p (xs ++ x ∷ []) ≡ (some p xs || p x)
@@ -39,6 +51,15 @@ some_at p (x ∷ xs) d h =
     (or_cases (p x) (some p xs) h)
 
 -- in_two
+
+-- with one element more, two are among them where two were before, or one was and it is the other
+pub in_two_push : {A : Type 0} (p : A → Bool) (xs : List A) (x : A)
+    → in_two p (xs ++ x ∷ []) ≡ (in_two p xs || (some p xs && p x))
+in_two_push p [] x = ap (λ b. b || false) (and_false (p x))
+in_two_push p (y ∷ xs) x =
+    ap (λ b. (p y && b) || in_two p (xs ++ x ∷ [])) (some_push p xs x)
+    ∙ ap (λ b. (p y && (some p xs || p x)) || b) (in_two_push p xs x)
+    ∙ two_of_three (p y) (some p xs) (p x) (in_two p xs)
 
 -- p holds of two elements
 pub record Two {A : Type 0} (p : A → Bool) (xs : List A) (d : A) : Type 0 where

@@ -1,8 +1,8 @@
 -- What the grammar's laws say of whole byte strings. Assumes nothing.
-use Rattle.std.proofs.Common.{◌≡◌, ℕ, ◌+◌, ◌-◌, ◌<◌, ◌≤◌, Bool, true, false, cond, not, List, [], ◌∷◌, ◌++◌}
+use Rattle.std.proofs.Common.{◌≡◌, ◌≢◌, ℕ, ◌+◌, ◌-◌, Bool, true, false, cond, not, List, [], ◌∷◌, ◌++◌, ◌==◌}
 use Rattle.std.proofs.Common.{length, take, drop, sym, refl, ap, ◌∙◌, subst, arith}
-use Rattle.std.proofs.lemmas.List.{append-nil, take_at, take-append-drop, drop_more, drop_all}
-use Rattle.std.proofs.lemmas.Bool.{and_parts, and_from, not-true, not_from_false}
+use Rattle.std.proofs.lemmas.List.{append-nil, take_at, take-append-drop}
+use Rattle.std.proofs.lemmas.Bool.{and_parts, and_from, not-true, not_from_false, both_ways, eqb-true}
 use Rattle.varint.specs.Decode.{span}
 use Rattle.refusal.specs.declared.refusal.Refusal.{Refusal}
 use Rattle.refusal.specs.declared.refusal.Refusal.TheVariants.{BytesLeft, SharedByBlocks}
@@ -22,28 +22,40 @@ pub verdict_refused : (bytes : List ℕ) (r : Refusal) (at : ℕ) → alternativ
 unfolding verdict
 verdict_refused bytes r at e = ap concluded e
 
-pub verdict_left : (bytes : List ℕ) (q : List Group) (at : ℕ) → alternatives 0 bytes
-    ≡ took q at (drop at bytes) → at < length bytes
-    → verdict bytes ≡ rejected BytesLeft at
-unfolding verdict
-verdict_left bytes q at e l = ap concluded (e ∙ ap (took q at) (drop_more bytes at 0 l))
+-- what is left, by whether it is empty
 
-verdict_all : (bytes : List ℕ) (q : List Group) (at : ℕ) → alternatives 0 bytes ≡ took q at (drop at bytes)
-    → length bytes ≤ at
+pub nothing_left : (rest : List ℕ) → true ≡ (length rest == 0) → rest ≡ []
+nothing_left [] e = refl
+nothing_left (b ∷ bs) e = absurd (omega (arith, eqb-true (length (b ∷ bs)) 0 (sym e)))
+
+pub something_left : (rest : List ℕ) → false ≡ (length rest == 0) → rest ≢ []
+something_left rest e none = both_ways _ (sym e) (ap (λ l. length l == 0) none)
+
+left : (q : List Group) (at : ℕ) (rest : List ℕ) → rest ≢ [] → concluded (took q at rest) ≡ rejected BytesLeft at
+left q at [] some = absurd (some refl)
+left q at (b ∷ bs) some = refl
+
+pub verdict_left : (bytes : List ℕ) (q : List Group) (at : ℕ) (rest : List ℕ)
+    → alternatives 0 bytes ≡ took q at rest → rest ≢ [] → verdict bytes ≡ rejected BytesLeft at
+unfolding verdict
+verdict_left bytes q at rest e some = ap concluded e ∙ left q at rest some
+
+verdict_all : (bytes : List ℕ) (q : List Group) (at : ℕ) (rest : List ℕ)
+    → alternatives 0 bytes ≡ took q at rest → rest ≡ []
     → verdict bytes ≡ cond (some shares q) (rejected SharedByBlocks at) (accepted q)
 unfolding verdict
-verdict_all bytes q at e l = ap concluded (e ∙ ap (took q at) (drop_all at bytes l))
+verdict_all bytes q at rest e none = ap concluded (e ∙ ap (took q at) none)
 
-pub verdict_shared : (bytes : List ℕ) (q : List Group) (at : ℕ) → alternatives 0 bytes
-    ≡ took q at (drop at bytes) → length bytes ≤ at
+pub verdict_shared : (bytes : List ℕ) (q : List Group) (at : ℕ) (rest : List ℕ)
+    → alternatives 0 bytes ≡ took q at rest → rest ≡ []
     → some shares q ≡ true → verdict bytes ≡ rejected SharedByBlocks at
-verdict_shared bytes q at e l s = verdict_all bytes q at e l
+verdict_shared bytes q at rest e none s = verdict_all bytes q at rest e none
     ∙ ap (λ b. cond b (rejected SharedByBlocks at) (accepted q)) s
 
-pub verdict_accepted : (bytes : List ℕ) (q : List Group) (at : ℕ) → alternatives 0 bytes
-    ≡ took q at (drop at bytes) → length bytes ≤ at
+pub verdict_accepted : (bytes : List ℕ) (q : List Group) (at : ℕ) (rest : List ℕ)
+    → alternatives 0 bytes ≡ took q at rest → rest ≡ []
     → some shares q ≡ false → verdict bytes ≡ accepted q
-verdict_accepted bytes q at e l s = verdict_all bytes q at e l
+verdict_accepted bytes q at rest e none s = verdict_all bytes q at rest e none
     ∙ ap (λ b. cond b (rejected SharedByBlocks at) (accepted q)) s
 
 -- accepted

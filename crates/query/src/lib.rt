@@ -22,7 +22,7 @@ pub mod read;
 mod roles;
 mod scan;
 mod sharing;
-mod step;
+mod tally;
 pub mod theorems;
 mod variables;
 pub mod write;
