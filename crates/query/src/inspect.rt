@@ -11,7 +11,7 @@ use crate::block::Block;
 use crate::query::Query;
 
 /// How much a query holds, over all its alternatives.
-#[derive(Clone, Copy)]
+#[derive(Clone, Copy, Debug, PartialEq, Eq)]
 pub struct Counts {
     pub alternatives: usize,
     pub blocks: usize,
