@@ -5,19 +5,20 @@ use Rattle.std.proofs.lemmas.Bool.{both_ways}
 use Rattle.std.proofs.lemmas.Bool.Decides.{same_from_decides}
 use Rattle.query.specs.declared.variables.VariableSet.{VariableSet}
 use Rattle.query.specs.Parts.{Part, Group}
-use Rattle.query.specs.Lawful.{some, in_two, shares}
+use Rattle.std.specs.List.{list_any}
+use Rattle.query.specs.Lawful.{in_two, shares}
 use Rattle.query.specs.Variables.{Gathers, member, mentioned, kept_in}
 use Rattle.query.proofs.Lawful.{in_two_push, lacking, shares_decides}
 
 -- a block more
 
 pub twice_push : (v : ℕ) (bs : List Part) (x : Part) (two one part : Bool) → two ≡ in_two (mentioned v) bs
-    → one ≡ some (mentioned v) bs → part ≡ mentioned v x
+    → one ≡ list_any (mentioned v) bs → part ≡ mentioned v x
     → (two || (one && part)) ≡ in_two (mentioned v) (bs ++ x ∷ [])
 twice_push v bs x two one part t o p =
     ap (λ b. b || (one && part)) t
     ∙ ap (λ b. in_two (mentioned v) bs || (b && part)) o
-    ∙ ap (λ b. in_two (mentioned v) bs || (some (mentioned v) bs && b)) p
+    ∙ ap (λ b. in_two (mentioned v) bs || (list_any (mentioned v) bs && b)) p
     ∙ sym (in_two_push (mentioned v) bs x)
 
 -- shares

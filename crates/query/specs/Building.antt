@@ -5,7 +5,8 @@ use Rattle.query.specs.declared.builder.Builder.{Builder}
 use Rattle.query.specs.declared.kept.Kept.{Kept}
 use Rattle.query.specs.declared.query.Query.{Query}
 use Rattle.query.specs.Format.{bytes_of}
-use Rattle.query.specs.Lawful.{some, in_two, shares, lawful}
+use Rattle.std.specs.List.{list_any}
+use Rattle.query.specs.Lawful.{in_two, shares, lawful}
 use Rattle.query.specs.Limits.{variables}
 use Rattle.query.specs.Shape.{shape}
 use Rattle.query.specs.Variables.{member, mentioned, Gathers}
@@ -16,9 +17,9 @@ use Rattle.query.specs.Drafts.{Draft, Keeps, draft_of}
 pub record Tracks (b : Builder) (d : Draft) : Type 0 where
   pub part : Gathers b.part d.triples
   pub required : Gathers b.required d.required
-  pub once : (v : ℕ) → v < variables → member v b.in_blocks ≡ some (mentioned v) d.blocks
+  pub once : (v : ℕ) → v < variables → member v b.in_blocks ≡ list_any (mentioned v) d.blocks
   pub twice : (v : ℕ) → v < variables → member v b.in_two_blocks ≡ in_two (mentioned v) d.blocks
-  pub shared : b.shared ≡ some shares d.done
+  pub shared : b.shared ≡ list_any shares d.done
   pub kept : Keeps b.kept d
 
 -- how many triples and nodes the builder has counted

@@ -13,14 +13,16 @@ pub(crate) enum Kind {
     Or = 6,
 }
 
-impl Kind {
-    /// The number that stands for the kind.
-    pub(crate) fn number(self) -> u32
-        ensures { result ≡ number_of self }
-    {
-        self as u32
-    }
+impl From<Kind> for u32 {
+    ghost from_gives = { λ k n. n ≡ number_of k };
 
+    fn from(kind: Kind) -> u32 {
+        kind as u32
+    }
+}
+
+impl Kind {
+    // Kept as an option, as `char::from_u32` is: a number has no kind for one reason only.
     /// The kind that has the number.
     pub(crate) fn from_number(number: u32) -> Option<Kind>
         ensures { result ≡ kind_from number }

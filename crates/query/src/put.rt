@@ -60,7 +60,7 @@ impl Coded for Kind {
     ghost sound = { λ _. Unit {0} };
 
     fn put(&self, writer: &mut Writer<'_>) {
-        self.number().put(writer);
+        u32::from(*self).put(writer);
     }
 }
 
@@ -83,7 +83,7 @@ impl<T: Coded> Coded for &[T] {
 
     fn put(&self, writer: &mut Writer<'_>) {
         (self.len() as u32).put(writer);
-        // Kept as a loop: each item moves the writer, which a closure over the items could only borrow whole.
+        // Kept as a loop: a proof knows nothing of what a closure under `for_each` did to the writer.
         for item in *self {
             item.put(writer);
         }

@@ -1,6 +1,7 @@
 use Rattle.std.proofs.Common.{◌≡◌, not, ◌||◌, sym, refl, ap, ◌∙◌, rules}
 use Rattle.query.specs.Drafts.{alternative_ended}
-use Rattle.query.specs.Lawful.{some, shares}
+use Rattle.std.specs.List.{list_any}
+use Rattle.query.specs.Lawful.{shares}
 use Rattle.query.specs.Parts.{Group}
 use Rattle.query.proofs.Building.{shares_found}
 use Rattle.query.proofs.Lawful.{some_push}
@@ -19,7 +20,7 @@ returns c = record {
         once = c.empty-self-2.ensures;
         twice = c.empty-self-3.ensures;
         shared = either ∙ ap (λ x. x || not apart) h.shared
-            ∙ ap (λ x. some shares d.done || x)
+            ∙ ap (λ x. list_any shares d.done || x)
             (shares_found b.required b.in_two_blocks g h.required h.twice apart c.is_subset-apart.ensures)
             ∙ sym (some_push shares d.done g);
         kept = c.keep.ensures alternative_ended (λ k k' r e. search rules) d h.kept;

@@ -1,6 +1,6 @@
 use Rattle.std.proofs.Common.{◌||◌, refl, sym, ap, ◌∙◌, rules}
 use Rattle.query.specs.Drafts.{block_ended}
-use Rattle.query.specs.Lawful.{some}
+use Rattle.std.specs.List.{list_any}
 use Rattle.query.specs.Parts.{Part}
 use Rattle.query.specs.Variables.{member, mentioned}
 use Rattle.query.proofs.Building.{twice_push}
@@ -17,7 +17,7 @@ returns c = record {
         required = h.required;
         once = λ v l.
             c.union-self-2.ensures v l ∙ ap (λ x. x || member v b.part) (h.once v l)
-            ∙ ap (λ x. some (mentioned v) d.blocks || x) (h.part v l) ∙ sym (some_push (mentioned v) d.blocks block);
+            ∙ ap (λ x. list_any (mentioned v) d.blocks || x) (h.part v l) ∙ sym (some_push (mentioned v) d.blocks block);
         twice = λ v l.
             c.union-self.ensures v l ∙ ap (λ x. member v b.in_two_blocks || x) (c.intersection-again.ensures v l)
             ∙ twice_push v d.blocks block _ _ _ (h.twice v l) (h.once v l) (h.part v l);

@@ -2,7 +2,8 @@ use Rattle.std.proofs.Common.{◌≡◌, not, length, vec_items, sym, ap, ◌∙
 use Rattle.std.proofs.lemmas.Bool.{and_parts}
 use Rattle.query.specs.Format.{group_bytes, counted, bytes_of}
 use Rattle.query.specs.Shape.{shape}
-use Rattle.query.specs.Lawful.{lawful_group, limited, some, shares}
+use Rattle.std.specs.List.{list_any}
+use Rattle.query.specs.Lawful.{lawful_group, limited, shares}
 use Rattle.query.specs.Limits.{most_alternatives}
 use Rattle.query.specs.Parts.{group_of}
 use Rattle.query.specs.Writes.{Put}
@@ -22,7 +23,7 @@ pub put-requires-clause-sound : goal.put-requires-clause-sound
 put-requires-clause-sound c =
     let q = c.args.self.now in
     let gs = shape q in
-    let l = query_limits gs (and_parts (limited gs) (not (some shares gs)) q.keeps).0 in
+    let l = query_limits gs (and_parts (limited gs) (not (list_any shares gs)) q.keeps).0 in
     subst (Writable (λ a. lawful_group (group_of a))) (sym c.as_slice.ensures.value)
     (mapped_writable group_of lawful_group 1 most_alternatives (vec_items q.alternatives) (omega arith) l.few
     l.groups)
