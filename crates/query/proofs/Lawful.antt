@@ -33,7 +33,8 @@ two_of_three true false false false = refl
 
 -- some
 
-pub some_push : {A : Type 0} (p : A → Bool) (xs : List A) (x : A) → list_any p (xs ++ x ∷ []) ≡ (list_any p xs || p x)
+pub some_push : {A : Type 0} (p : A → Bool) (xs : List A) (x : A) → list_any p (xs ++ x ∷ []) ≡ (list_any p
+    xs || p x)
 some_push p [] x = or_false (p x)
 some_push p (y ∷ xs) x = ap (λ b. p y || b) (some_push p xs x) ∙ sym (or_assoc (p y) (list_any p xs) (p x))
 

@@ -89,14 +89,16 @@ module _ {S A : Type 0} {item : S → Reader A} {step : S → A → S} {state : 
           (s.left ∙ ap (λ n. prefixed s.items (ahead (times n item step (state s.items)) here)) none))
 
       -- the next item was refused
-      pub sofar_refused : {T : Type 0} (r : Result T Rejection) (c : Cursor) (K : List A → Type 0) (e : Rejection)
+      pub sofar_refused : {T : Type 0} (r : Result T Rejection) (c : Cursor) (K : List A → Type 0)
+          (e : Rejection)
           → IsErrAnd r (λ f. f ≡ e) → taken < count
           → ahead (item (state s.items)) here ≡ refused e.refusal e.place
           → Takes (ahead (series low high item step first) before) r c K
       sofar_refused (Ok x) c K e is l t = absurd is
       sofar_refused (Err f) c K e is l t =
           ap (λ z. ahead (series low high item step z) before) (sym from)
-          ∙ series_refused low high item step (state []) before.at before.rest.now count start.at start.rest.now
+          ∙ series_refused low high item step (state []) before.at before.rest.now count start.at
+          start.rest.now
           f.refusal f.place counted
           (times_refused item step whole s.items (state s.items) here.at here.rest.now (count - (taken + 1))
           f.refusal f.place (left_next l) (t ∙ ap (λ g. refused g.refusal g.place) (sym is)))

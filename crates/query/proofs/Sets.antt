@@ -18,13 +18,17 @@ module _ {F B : Type 0} (g : Mut F (ℕ × Unit {0}) B) (f : F) (h : ℕ → B) 
       let c = calls i y q (omega arith) called in
       ⊎_elim
       (λ e. ap (λ j. get_or ys j d) e ∙ is.1 d ∙ c.1 ∙ ap h (sym e))
-      (λ ne. from_fn_each ys n (i + 1) (omega arith) (subst (λ s. IsFromFnResultFrom g s ys (i + 1) n) c.0 rest)
+      (λ ne. from_fn_each ys n (i + 1) (omega arith) (subst (λ s. IsFromFnResultFrom g s ys (i + 1) n) c.0
+      rest)
       k d (omega (arith, ne)) (omega arith))
       (cases_eq k i)
 
 -- a search over the numbers below n
 pub each_below : (P Q : ℕ → Type 0) (n : ℕ) (r : Bool)
-    → MatchBool r (AllWithin P (range_with_len 0 n) 0 n) ((k : ℕ) × (k < n) × HoldsAt Q (range_with_len 0 n) k)
+    → MatchBool r (AllWithin P (range_with_len 0 n) 0 n) ((k : ℕ) × (k < n) × HoldsAt Q (range_with_len 0
+    n) k)
     → MatchBool r ((v : ℕ) → v < n → P v) ((v : ℕ) × ((v < n) × Q v))
-each_below P Q n true all = λ v l. subst P (get_or-range_with_len 0 n v 0 l ∙ zero-add _) (all v 0 (omega arith) l)
-each_below P Q n false (k, l, holds) = (k, (l, subst Q (get_or-range_with_len 0 n k 0 l ∙ zero-add _) (holds 0)))
+each_below P Q n true all = λ v l. subst P (get_or-range_with_len 0 n v 0 l ∙ zero-add _) (all v 0 (omega
+    arith) l)
+each_below P Q n false (k, l, holds) = (k, (l, subst Q (get_or-range_with_len 0 n k 0 l ∙ zero-add _)
+    (holds 0)))

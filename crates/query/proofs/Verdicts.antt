@@ -32,7 +32,8 @@ nothing_left (b ∷ bs) e = absurd (omega (arith, eqb-true (length (b ∷ bs)) 0
 pub something_left : (rest : List ℕ) → false ≡ (length rest == 0) → rest ≢ []
 something_left rest e none = both_ways _ (sym e) (ap (λ l. length l == 0) none)
 
-left : (q : List Group) (at : ℕ) (rest : List ℕ) → rest ≢ [] → concluded (took q at rest) ≡ rejected BytesLeft at
+left : (q : List Group) (at : ℕ) (rest : List ℕ) → rest ≢ [] → concluded (took q at rest) ≡ rejected
+    BytesLeft at
 left q at [] more = absurd (more refl)
 left q at (b ∷ bs) more = refl
 

@@ -58,7 +58,8 @@ put_append a b at mid end out then after h p q = (
 )
 
 -- the same, of a writer
-pub puts_append : (a b : List ℕ) (w v u : Writer) → Fits (a ++ b) w → Puts a w v → Puts b v u → Puts (a ++ b) w u
+pub puts_append : (a b : List ℕ) (w v u : Writer) → Fits (a ++ b) w → Puts a w v → Puts b v u → Puts (a ++
+    b) w u
 puts_append a b w v u h p q = record {
   put = put_append a b w.at v.at u.at w.out.now v.out.now u.out.now h p.put q.put;
   same = q.same ∙ p.same;

@@ -1,5 +1,6 @@
 use Rattle.std.proofs.Common.{sym, ◌∙◌}
-use Rattle.query.proofs.Verdicts.{verdict_left, verdict_shared, verdict_accepted, nothing_left, something_left}
+use Rattle.query.proofs.Verdicts.{verdict_left, verdict_shared, verdict_accepted}
+use Rattle.query.proofs.Verdicts.{nothing_left, something_left}
 use Rattle.query.proofs.Outcomes.{scanned_refused, rejected_as}
 use Rattle.query.proofs.scan.scan.Goals as goal
 

@@ -17,9 +17,11 @@ returns c = record {
         required = h.required;
         once = λ v l.
             c.union-self-2.ensures v l ∙ ap (λ x. x || member v b.part) (h.once v l)
-            ∙ ap (λ x. list_any (mentioned v) d.blocks || x) (h.part v l) ∙ sym (some_push (mentioned v) d.blocks block);
+            ∙ ap (λ x. list_any (mentioned v) d.blocks || x) (h.part v l) ∙ sym (some_push (mentioned v)
+            d.blocks block);
         twice = λ v l.
-            c.union-self.ensures v l ∙ ap (λ x. member v b.in_two_blocks || x) (c.intersection-again.ensures v l)
+            c.union-self.ensures v l ∙ ap (λ x. member v b.in_two_blocks || x)
+            (c.intersection-again.ensures v l)
             ∙ twice_push v d.blocks block _ _ _ (h.twice v l) (h.once v l) (h.part v l);
         shared = h.shared;
         kept = c.keep.ensures block_ended (λ k k' r e. search rules) d h.kept;

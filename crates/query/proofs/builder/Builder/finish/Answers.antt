@@ -19,4 +19,5 @@ finished b (Some k) None Made is made h = absurd h
 finished b (Some k) (Some q) Made is made h = (k, (is, made k q h))
 
 pub returns : goal.returns
-returns c = finished c.args.self c.args.self.kept c.map.result _ refl (λ k q h. search rules) c.map.ensures.cases
+returns c = finished c.args.self c.args.self.kept c.map.result _ refl (λ k q h. search rules)
+    c.map.ensures.cases

@@ -32,7 +32,8 @@ returns c h =
     let s = c.loop-number.invariant h in (
       s.items,
       (
-        sofar_all s 1 most_alternatives c.args.self.now c.in_ok-count.ensures unused refl c.loop-number-test.false,
+        sofar_all s 1 most_alternatives c.args.self.now c.in_ok-count.ensures unused refl
+        c.loop-number-test.false,
         s.held.tracks,
       ),
     )

@@ -37,7 +37,8 @@ returns c done required h =
     let s = c.loop-number.invariant done required h in (
       s.items,
       (
-        sofar_all s 0 most_blocks c.args.self.now c.in_ok-count.ensures u (parts_none u) c.loop-number-test.false,
+        sofar_all s 0 most_blocks c.args.self.now c.in_ok-count.ensures u (parts_none u)
+        c.loop-number-test.false,
         s.held,
       ),
     )

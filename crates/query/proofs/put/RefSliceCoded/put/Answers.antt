@@ -8,7 +8,8 @@ use Rattle.query.proofs.put.RefSliceCoded.put.Goals.{After-put}
 
 -- the items fit behind their count
 fits : (g : given.Over) (c : After-put g)
-    → c.put.new.writer.at + length (flat_map g.T.Coded.code c.args.self.now.now) ≤ length c.put.new.writer.out.now
+    → c.put.new.writer.at + length (flat_map g.T.Coded.code c.args.self.now.now) ≤ length
+    c.put.new.writer.out.now
 fits g c =
     let xs = c.args.self.now.now in
     room_second (encode (length xs)) (flat_map g.T.Coded.code xs) c.args.writer.now.at c.put.new.writer.at
@@ -29,7 +30,8 @@ loop-item-preserved g c =
     let there = c.put-in-loop-item.new.writer in (
       completes_more g.T.Coded.code c.args.self.now.now first.out.now first.at
           (fits g (goal.at.loop-item-preserved g c).After-put) c.loop-item.item-index c.item-item.result
-          here.out.now here.at c.loop-item-test.true c.item-item.is c.loop-item.invariant.0 there.out.now there.at
+          here.out.now here.at c.loop-item-test.true c.item-item.is c.loop-item.invariant.0 there.out.now
+          there.at
           c.put-in-loop-item.ensures.put,
       c.put-in-loop-item.ensures.same ∙ c.loop-item.invariant.1,
     )

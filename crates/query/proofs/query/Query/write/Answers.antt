@@ -40,6 +40,7 @@ pub returns : goal.returns
 returns c =
     let q = c.args.self.now in
     let end = c.put.new.writer in
-    let put = subst (λ l. Put l 0 c.args.out.now end.at end.out.now) (whole (goal.at.returns c).After-as_slice)
+    let put = subst (λ l. Put l 0 c.args.out.now end.at end.out.now) (whole (goal.at.returns
+    c).After-as_slice)
     c.put.ensures.put in
     (omega (arith, q.measured), omega (arith, put.0), via end.out.now (search rules) put.1)

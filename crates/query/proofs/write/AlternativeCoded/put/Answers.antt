@@ -15,7 +15,8 @@ same_three p q r = cc
 -- the bytes of the three lists are those of the alternative
 whole : (c : After-as_slice-3)
     → counted triple_bytes c.as_slice-3.result.now
-    ++ (counted (λ b. part_bytes (part_of b)) c.as_slice.result.now ++ counted node_bytes c.as_slice-2.result.now)
+    ++ (counted (λ b. part_bytes (part_of b)) c.as_slice.result.now ++ counted node_bytes
+    c.as_slice-2.result.now)
     ≡ group_bytes (group_of c.args.self.now)
 whole c =
     let a = c.args.self.now in
@@ -33,7 +34,8 @@ put-requires-clause-sound c =
           (triples_writable 0 (vec_items a.required) l.required),
       (
         subst (Writable (λ b. lawful_part (part_of b))) (sym c.as_slice.ensures.value)
-            (mapped_writable part_of lawful_part 0 most_blocks (vec_items a.blocks) (omega arith) l.few l.blocks),
+            (mapped_writable part_of lawful_part 0 most_blocks (vec_items a.blocks) (omega arith) l.few
+            l.blocks),
         subst (Writable places_lawful) (sym c.as_slice-2.ensures.value)
             (filter_writable (vec_items a.filter) l.filter),
       ),
