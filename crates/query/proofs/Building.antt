@@ -1,110 +1,59 @@
 -- Laws of what the builder knows. Assumes nothing.
-use Rattle.std.proofs.Common.{◌≡◌, ℕ, ◌<◌, ◌≤◌, Bool, true, false, not, ◌&&◌, List, [], ◌∷◌, ◌++◌, length}
-use Rattle.std.proofs.Common.{get_or, take, set, Decides, MatchBool, sym, refl, ap, ◌∙◌, subst, ⊎_elim, arith}
-use Rattle.std.proofs.lemmas.List.{get_or-set_same, get_or-set_other, get_or_push, get_or_append_left}
-use Rattle.std.proofs.lemmas.List.{length_push, get_or-take, length-take-le}
-use Rattle.std.proofs.lemmas.Bool.{cases_eq, and_parts, and_from, both_ways}
-use Rattle.std.proofs.lemmas.Bool.Decides.{same_from_decides, Decides-like}
+use Rattle.std.proofs.Common.{◌≡◌, ℕ, ◌<◌, Bool, true, false, not, ◌&&◌, ◌||◌, List, ◌∷◌, [], ◌++◌, Decides}
+use Rattle.std.proofs.Common.{MatchBool, sym, refl, ap, ◌∙◌}
+use Rattle.std.proofs.lemmas.Bool.{both_ways}
+use Rattle.std.proofs.lemmas.Bool.Decides.{same_from_decides}
 use Rattle.query.specs.declared.variables.VariableSet.{VariableSet}
 use Rattle.query.specs.Parts.{Part, Group}
-use Rattle.query.specs.Lawful.{in_two, mentions, shares}
-use Rattle.query.specs.Variables.{Gathers, member, Clash}
-use Rattle.query.proofs.Lawful.{in_two_decides, lacking, shares_decides}
+use Rattle.std.specs.List.{list_any}
+use Rattle.query.specs.Lawful.{in_two, shares}
+use Rattle.query.specs.Variables.{Gathers, member, mentioned, kept_in}
+use Rattle.query.proofs.Lawful.{in_two_push, lacking, shares_decides}
 
-decided : {P : Type 0} (r : Bool) → MatchBool r P (P → ⊥) → Decides r P
-decided true h = (λ _. h, λ _. refl)
-decided false h = (λ e. absurd (both_ways false refl e), λ p. absurd (h p))
+-- a block more
 
--- blocks
-
--- one block more, with its variables in the next place
-pub blocks_push : (sets : List VariableSet) (parts : List Part) (n : ℕ) (part : VariableSet) (x : Part)
-    → n ≡ length parts → n < length sets → Gathers part x.triples
-    → ((k : ℕ) (s : VariableSet) (p : Part) → k < length parts
-    → Gathers (get_or sets k s) (get_or parts k p).triples)
-    → (k : ℕ) (s : VariableSet) (p : Part) → k < length (parts ++ x ∷ [])
-    → Gathers (get_or (set sets n part) k s) (get_or (parts ++ x ∷ []) k p).triples
-blocks_push sets parts n part x count room last before k s p l =
-    ⊎_elim
-    (λ e.
-    subst (λ y. Gathers y (get_or (parts ++ x ∷ []) k p).triples)
-    (sym (ap (λ i. get_or (set sets n part) i s) e ∙ get_or-set_same sets n part s room))
-    (subst (λ y. Gathers part y.triples)
-    (sym (ap (λ i. get_or (parts ++ x ∷ []) i p) e ∙ get_or_push parts x p n (sym count))) last))
-    (λ ne.
-    let long = length_push parts x in
-    let old : k < length parts = omega (arith, long, ne) in
-    subst (λ y. Gathers y (get_or (parts ++ x ∷ []) k p).triples) (sym (get_or-set_other sets n k part s ne))
-    (subst (λ y. Gathers (get_or sets k s) y.triples) (sym (get_or_append_left parts (x ∷ []) p k old))
-    (before k s p old)))
-    (cases_eq k n)
+pub twice_push : (v : ℕ) (bs : List Part) (x : Part) (two one part : Bool) → two ≡ in_two (mentioned v) bs
+    → one ≡ list_any (mentioned v) bs → part ≡ mentioned v x
+    → (two || (one && part)) ≡ in_two (mentioned v) (bs ++ x ∷ [])
+twice_push v bs x two one part t o p =
+    ap (λ b. b || (one && part)) t
+    ∙ ap (λ b. in_two (mentioned v) bs || (b && part)) o
+    ∙ ap (λ b. in_two (mentioned v) bs || (list_any (mentioned v) bs && b)) p
+    ∙ sym (in_two_push (mentioned v) bs x)
 
 -- shares
 
--- what the blocks' sets have to do with the blocks
-abbrev BlocksKnown : List VariableSet → List Part → Type 0
-BlocksKnown sets parts = (k : ℕ) (s : VariableSet) (p : Part) → k < length parts
-    → Gathers (get_or sets k s) (get_or parts k p).triples
+not_kept : (a b : Bool) → (not a || b) ≡ not (a && not b)
+not_kept true true = refl
+not_kept true false = refl
+not_kept false b = refl
 
-module _ (required : VariableSet) (sets : List VariableSet) (g : Group) (s : VariableSet) (p : Part)
-    (knows : Gathers required g.required) (as_many : length sets ≡ length g.blocks)
-    (blocks : BlocksKnown sets g.blocks) where
-  clash_lacking : Clash required sets → (v : ℕ) × (v < 16) × (lacking g v ≡ true)
-  clash_lacking k =
-      let v = k.variable in
-      let ordered = k.ordered in
-      let inside : k.second < length g.blocks = omega (arith, k.inside, as_many) in
-      let a = and_parts (member v (get_or sets k.first s)) (member v (get_or sets k.second s)
-      && not (member v required)) (k.clashes s) in
-      let b = and_parts (member v (get_or sets k.second s)) (not (member v required)) a.1 in (
-        v,
-        k.known,
-        and_from _ _
-            ((in_two_decides (λ b. mentions v b.triples) g.blocks p).1 (record {
-              first = k.first;
-              second = k.second;
-              ordered = ordered;
-              inside = inside;
-              first_holds = sym (blocks k.first s p (omega arith) v k.known) ∙ a.0;
-              second_holds = sym (blocks k.second s p inside v k.known) ∙ b.0;
-            }))
-            (ap not (sym (knows v k.known)) ∙ b.1),
-      )
+not_both : (b : Bool) → not b ≡ true → b ≡ true → ⊥
+not_both true h e = both_ways false refl h
+not_both false h e = both_ways false refl e
 
-  lacking_clash : (v : ℕ) × (v < 16) × (lacking g v ≡ true) → Clash required sets
-  lacking_clash (v, l, h) =
-      let w = and_parts (in_two (λ b. mentions v b.triples) g.blocks) (not (mentions v g.required))
-      h in
-      let t = (in_two_decides (λ b. mentions v b.triples) g.blocks p).0 w.0 in
-      let ordered = t.ordered in
-      let inside = t.inside in
-      let within : t.second < length sets = omega (arith, as_many) in
-      record {
-        first = t.first;
-        second = t.second;
-        variable = v;
-        ordered = ordered;
-        inside = within;
-        known = l;
-        clashes = λ d. and_from _ _ (blocks t.first d p (omega arith) v l ∙ t.first_holds)
-            (and_from _ _ (blocks t.second d p inside v l ∙ t.second_holds) (ap not (knows v l) ∙ w.1));
-      }
+not_not : (b : Bool) → not b ≡ false → b ≡ true
+not_not true h = refl
+not_not false h = sym h
 
-  pub shares_found : (r : Bool) → MatchBool r (Clash required sets) (Clash required sets → ⊥) → r ≡ shares g
-  shares_found r h =
-      same_from_decides r (shares g) (Decides-like r clash_lacking lacking_clash (decided r h))
-      (shares_decides g)
+module _ (required two : VariableSet) (g : Group) (knows : Gathers required g.required)
+    (twice : (v : ℕ) → v < 16 → member v two ≡ in_two (mentioned v) g.blocks) where
+  kept_lacking : (v : ℕ) → v < 16 → kept_in two required v ≡ not (lacking g v)
+  kept_lacking v l =
+      not_kept (member v two) (member v required)
+      ∙ ap (λ b. not (b && not (member v required))) (twice v l)
+      ∙ ap (λ b. not (in_two (mentioned v) g.blocks && not b)) (knows v l)
 
--- the blocks that there are, where the sets of all have room for more
-pub shares_front : (required : VariableSet) (sets : List VariableSet) (n : ℕ) (g : Group) (r : Bool)
-    → Gathers required g.required
-    → n ≡ length g.blocks → n ≤ length sets → BlocksKnown sets g.blocks
-    → MatchBool r (Clash required (take n sets)) (Clash required (take n sets) → ⊥) → r ≡ shares g
-shares_front required sets n g r knows many room blocks h =
-    shares_found required (take n sets) g required (record { triples = []; filter = [] }) knows
-    (length-take-le n sets room ∙ many)
-    (λ k s p l.
-    let inside : k < n = omega arith in
-    subst (λ y. Gathers y (get_or g.blocks k p).triples) (sym (get_or-take n sets k s inside))
-    (blocks k s p l))
-    r h
+  decided : (r : Bool) → MatchBool r ((v : ℕ) → v < 16 → kept_in two required v ≡ true)
+      ((v : ℕ) × ((v < 16) × (kept_in two required v ≡ false)))
+      → Decides (not r) ((v : ℕ) × (v < 16) × (lacking g v ≡ true))
+  decided true all = (
+    λ e. absurd (both_ways false refl e),
+    λ k. absurd (not_both (lacking g k.0) (sym (kept_lacking k.0 k.1) ∙ all k.0 k.1) k.2),
+  )
+  decided false (v, (l, e)) = (λ _. (v, l, not_not (lacking g v) (sym (kept_lacking v l) ∙ e)), λ _. refl)
+
+  -- the blocks share a variable exactly where not each variable of two blocks is a required one
+  pub shares_found : (r : Bool) → MatchBool r ((v : ℕ) → v < 16 → kept_in two required v ≡ true)
+      ((v : ℕ) × ((v < 16) × (kept_in two required v ≡ false))) → not r ≡ shares g
+  shares_found r h = same_from_decides (not r) (shares g) (decided r h) (shares_decides g)

@@ -3,7 +3,8 @@
 use Rattle.std.proofs.Common.{◌≡◌, ℕ, ◌+◌, ◌*◌, ◌<◌, ◌≤◌, true, not, List, map, length, get_or, drop, arith}
 use Rattle.std.proofs.lemmas.Bool.{and_parts}
 use Rattle.query.specs.declared.alternative.Alternative.{Alternative}
-use Rattle.query.specs.Lawful.{some, shares, total, triples_in, nodes_in}
+use Rattle.std.specs.List.{list_any}
+use Rattle.query.specs.Lawful.{shares, total, triples_in, nodes_in}
 use Rattle.query.specs.Lawful.{lawful_group, limited, lawful}
 use Rattle.query.specs.Limits.{most_blocks, most_alternatives}
 use Rattle.query.specs.Limits.{most_in_all}
@@ -23,7 +24,7 @@ few_blocks g h = within_high 0 most_blocks (length g.blocks) (group_limits g h).
 pub sums_lawful : (xs : List Alternative) → lawful (map group_of xs) ≡ true → Sums xs
 sums_lawful xs h =
     let gs = map group_of xs in
-    let l = query_limits gs (and_parts (limited gs) (not (some shares gs)) h).0 in
+    let l = query_limits gs (and_parts (limited gs) (not (list_any shares gs)) h).0 in
     let many = within_high 1 most_alternatives (length gs) l.few in
     record {
       blocks = omega (

@@ -1,37 +1,18 @@
 -- Laws of drafts and of what is kept of them. Assumes nothing.
-use Rattle.std.proofs.Common.{◌≡◌, Bool, true, cond, List, [], ◌∷◌, ◌++◌, map, sym, ap, ◌∙◌, subst}
-use Rattle.std.proofs.lemmas.List.{map_push, append_assoc, append-nil}
+use Rattle.std.proofs.Common.{◌≡◌, List, [], ◌∷◌, ◌++◌, ap}
+use Rattle.std.proofs.lemmas.List.{append_assoc, append-nil}
 use Rattle.query.specs.declared.node.Node.{Node}
 use Rattle.query.specs.declared.pattern.TriplePattern.{TriplePattern}
-use Rattle.query.specs.Parts.{Part, Group}
 use Rattle.query.specs.declared.builder.Builder.{Builder}
-use Rattle.query.specs.declared.step.Step.TheVariants as step
-use Rattle.query.specs.declared.step.Step.TheVariants.{Triple}
-use Rattle.query.specs.Drafts.{Draft, stepped}
-use Rattle.query.specs.Building.{Tracks, used_of}
-use Rattle.query.specs.Scanning.{Holds}
+use Rattle.query.specs.Drafts.{Draft, with_triple, with_node}
+use Rattle.query.specs.Building.{Tracks}
 use Rattle.query.specs.Drafts.{with_triples_in, with_nodes_in}
-use Rattle.query.specs.Grammar.{Used}
-
-pub same_draft : {p p' : List Group} {q q' : List TriplePattern} {r r' : List Part}
-    {s s' : List TriplePattern} {t t' : List Node}
-    → p ≡ p' → q ≡ q' → r ≡ r' → s ≡ s' → t ≡ t'
-    → ◌≡◌ {A = Draft} (record { done = p; required = q; blocks = r; triples = s; nodes = t })
-    (record { done = p'; required = q'; blocks = r'; triples = s'; nodes = t' })
-same_draft a b c d e = cc
-
--- what a push that found memory leaves, each element seen by f
-pub map_pushed : {A B : Type 0} (f : A → B) (before after : List A) (x : A) (y : B) (ok found : Bool)
-    → after ≡ cond ok (before ++ x ∷ []) before → found ≡ ok → found ≡ true → f x ≡ y → map f after
-    ≡ map f before ++ y ∷ []
-map_pushed f before after x y ok found e o t same =
-    ap (map f) (e ∙ ap (λ b. cond b (before ++ x ∷ []) before) (sym o ∙ t)) ∙ map_push f before x
-    ∙ ap (λ z. map f before ++ z ∷ []) same
+use Rattle.query.specs.declared.tally.Tally.{Tally}
 
 -- with_triples_in, with_nodes_in
 
 pub triple_in : (d : Draft) (ts : List TriplePattern) (t : TriplePattern)
-    → stepped (with_triples_in d ts) (Triple t) ≡ with_triples_in d (ts ++ t ∷ [])
+    → with_triple (with_triples_in d ts) t ≡ with_triples_in d (ts ++ t ∷ [])
 triple_in d ts t =
     ap (λ l. record {
       done = d.done;
@@ -51,7 +32,7 @@ triple_in_none d =
       nodes = d.nodes;
     }) (append-nil d.triples)
 
-pub node_in : (d : Draft) (ns : List Node) (n : Node) → stepped (with_nodes_in d ns) (step.Node n)
+pub node_in : (d : Draft) (ns : List Node) (n : Node) → with_node (with_nodes_in d ns) n
     ≡ with_nodes_in d (ns ++ n ∷ [])
 node_in d ns n =
     ap (λ l. record {
@@ -72,7 +53,16 @@ node_in_none d =
       nodes = l;
     }) (append-nil d.nodes)
 
--- Holds
+-- Tracks
 
-pub holds_none : (b : Builder) (d e : Draft) (u : Used) → Tracks b d → e ≡ d → used_of b ≡ u → Holds b e u
-holds_none b d e u h same used = record { tracks = subst (Tracks b) (sym same) h; used = used }
+-- counting changes nothing of what is known of the draft
+pub recounted : (b : Builder) (d : Draft) (triples nodes : Tally) → Tracks b d
+    → Tracks (record b { triples = triples; nodes = nodes }) d
+recounted b d triples nodes h = record {
+  part = h.part;
+  required = h.required;
+  once = h.once;
+  twice = h.twice;
+  shared = h.shared;
+  kept = h.kept;
+}

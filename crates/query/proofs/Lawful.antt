@@ -6,7 +6,8 @@ use Rattle.std.proofs.lemmas.List.{at_drop_more, at_drop_all}
 use Rattle.std.proofs.lemmas.Bool.{and_parts, and_from, or_cases, or_left, or_right}
 use Rattle.std.proofs.lemmas.Bool.Decides.{Decides-below_or}
 use Rattle.query.specs.Parts.{Group}
-use Rattle.query.specs.Lawful.{every, some, in_two, total, mentions, shared_below, shares}
+use Rattle.std.specs.List.{list_all, list_any}
+use Rattle.query.specs.Lawful.{in_two, total, mentions, shared_below, shares}
 
 -- ||
 
@@ -18,27 +19,49 @@ pub or_assoc : (x y z : Bool) → ((x || y) || z) ≡ (x || (y || z))
 or_assoc true y z = refl
 or_assoc false y z = refl
 
+and_false : (x : Bool) → (x && false) ≡ false
+and_false true = refl
+and_false false = refl
+
+two_of_three : (a s x t : Bool) → ((a && (s || x)) || (t || (s && x))) ≡ (((a && s) || t) || ((a || s) && x))
+two_of_three false s x t = refl
+two_of_three true true x t = refl
+two_of_three true false true true = refl
+two_of_three true false true false = refl
+two_of_three true false false true = refl
+two_of_three true false false false = refl
+
 -- some
 
-pub some_push : {A : Type 0} (p : A → Bool) (xs : List A) (x : A) → some p (xs ++ x ∷ []) ≡ (some p xs || p x)
+pub some_push : {A : Type 0} (p : A → Bool) (xs : List A) (x : A) → list_any p (xs ++ x ∷ []) ≡ (list_any p
+    xs || p x)
 some_push p [] x = or_false (p x)
-some_push p (y ∷ xs) x = ap (λ b. p y || b) (some_push p xs x) ∙ sym (or_assoc (p y) (some p xs) (p x))
+some_push p (y ∷ xs) x = ap (λ b. p y || b) (some_push p xs x) ∙ sym (or_assoc (p y) (list_any p xs) (p x))
 
 pub some_from : {A : Type 0} (p : A → Bool) (xs : List A) (j : ℕ) (d : A) → j < length xs → p (get_or xs j d)
-    ≡ true → some p xs ≡ true
+    ≡ true → list_any p xs ≡ true
 some_from p [] j d l h = absurd (omega arith)
-some_from p (x ∷ xs) zero d l h = or_left (p x) (some p xs) h
-some_from p (x ∷ xs) (suc j) d l h = or_right (p x) (some p xs) (some_from p xs j d (omega arith) h)
+some_from p (x ∷ xs) zero d l h = or_left (p x) (list_any p xs) h
+some_from p (x ∷ xs) (suc j) d l h = or_right (p x) (list_any p xs) (some_from p xs j d (omega arith) h)
 
-pub some_at : {A : Type 0} (p : A → Bool) (xs : List A) (d : A) → some p xs ≡ true
+pub some_at : {A : Type 0} (p : A → Bool) (xs : List A) (d : A) → list_any p xs ≡ true
     → (j : ℕ) × ((j < length xs) × (p (get_or xs j d) ≡ true))
 some_at p [] d h = let z : ◌≡◌ {A = ℕ} 0 1 = cc in absurd (omega arith)
 some_at p (x ∷ xs) d h =
     ⊎_elim (λ e. (0, (omega arith, e)))
     (λ e. let (j, (l, t)) = some_at p xs d e in (suc j, (omega arith, t)))
-    (or_cases (p x) (some p xs) h)
+    (or_cases (p x) (list_any p xs) h)
 
 -- in_two
+
+-- with one element more, two are among them where two were before, or one was and it is the other
+pub in_two_push : {A : Type 0} (p : A → Bool) (xs : List A) (x : A)
+    → in_two p (xs ++ x ∷ []) ≡ (in_two p xs || (list_any p xs && p x))
+in_two_push p [] x = ap (λ b. b || false) (and_false (p x))
+in_two_push p (y ∷ xs) x =
+    ap (λ b. (p y && b) || in_two p (xs ++ x ∷ [])) (some_push p xs x)
+    ∙ ap (λ b. (p y && (list_any p xs || p x)) || b) (in_two_push p xs x)
+    ∙ two_of_three (p y) (list_any p xs) (p x) (in_two p xs)
 
 -- p holds of two elements
 pub record Two {A : Type 0} (p : A → Bool) (xs : List A) (d : A) : Type 0 where
@@ -55,18 +78,18 @@ in_two_from : {A : Type 0} (p : A → Bool) (xs : List A) (i j : ℕ) (d : A) �
 in_two_from p [] i j d o l h k = absurd (omega arith)
 in_two_from p (x ∷ xs) zero zero d o l h k = absurd (omega arith)
 in_two_from p (x ∷ xs) zero (suc j) d o l h k =
-    or_left (p x && some p xs) (in_two p xs)
-    (and_from (p x) (some p xs) h (some_from p xs j d (omega arith) k))
+    or_left (p x && list_any p xs) (in_two p xs)
+    (and_from (p x) (list_any p xs) h (some_from p xs j d (omega arith) k))
 in_two_from p (x ∷ xs) (suc i) zero d o l h k = absurd (omega arith)
 in_two_from p (x ∷ xs) (suc i) (suc j) d o l h k =
-    or_right (p x && some p xs) (in_two p xs) (in_two_from p xs i j d (omega arith) (omega arith) h k)
+    or_right (p x && list_any p xs) (in_two p xs) (in_two_from p xs i j d (omega arith) (omega arith) h k)
 
 in_two_at : {A : Type 0} (p : A → Bool) (xs : List A) (d : A) → in_two p xs ≡ true → Two p xs d
 in_two_at p [] d h = let z : ◌≡◌ {A = ℕ} 0 1 = cc in absurd (omega arith)
 in_two_at p (x ∷ xs) d h =
     ⊎_elim
     (λ e.
-    let w = and_parts (p x) (some p xs) e in
+    let w = and_parts (p x) (list_any p xs) e in
     let (j, (l, t)) = some_at p xs d w.1 in
     record {
       first = 0;
@@ -88,7 +111,7 @@ in_two_at p (x ∷ xs) d h =
       first_holds = t.first_holds;
       second_holds = t.second_holds;
     })
-    (or_cases (p x && some p xs) (in_two p xs) h)
+    (or_cases (p x && list_any p xs) (in_two p xs) h)
 
 pub in_two_decides : {A : Type 0} (p : A → Bool) (xs : List A) (d : A) → Decides (in_two p xs) (Two p xs d)
 in_two_decides p xs d = (
@@ -130,8 +153,8 @@ total-map g f (x ∷ xs) = ap (λ n. f (g x) + n) (total-map g f xs)
 -- where each counts at most so much
 pub total_most : {A : Type 0} (f : A → ℕ) (most : ℕ) (ok : A → Bool) (xs : List A)
     → ((x : A) → ok x ≡ true → f x ≤ most)
-    → every ok xs ≡ true → total f xs ≤ most * length xs
+    → list_all ok xs ≡ true → total f xs ≤ most * length xs
 total_most f most ok [] bound h = omega arith
 total_most f most ok (x ∷ xs) bound h =
-    let w = and_parts (ok x) (every ok xs) h in
+    let w = and_parts (ok x) (list_all ok xs) h in
     omega (arith, bound x w.0, total_most f most ok xs bound w.1, mul-suc most (length xs))

@@ -6,7 +6,7 @@ pub mod Numbers  -- a number read at a place
 pub mod Sequences  -- laws of parts read one behind the other
 pub mod Codecs  -- places, triples and nodes, each with its writing
 pub mod Parts  -- lists, blocks and alternatives, each with its writing
-pub mod Clashes  -- blocks that share a variable
+pub mod Sets  -- sets of variables
 pub mod Drafts  -- what is kept while a query is read
 pub mod Building  -- what the builder knows
 pub mod Loops  -- items read one by one

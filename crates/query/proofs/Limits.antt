@@ -1,7 +1,8 @@
 -- What keeping a limit says: of a number, of an alternative, of a query. Assumes nothing.
 use Rattle.std.proofs.Common.{◌≡◌, ℕ, ◌≤◌, true, ◌&&◌, leb, List, length}
 use Rattle.std.proofs.lemmas.Bool.{leb-true, le-leb, and_parts, and_from}
-use Rattle.query.specs.Lawful.{every, total, lawful_triples, lawful_part, lawful_filter, lawful_group}
+use Rattle.std.specs.List.{list_all}
+use Rattle.query.specs.Lawful.{total, lawful_triples, lawful_part, lawful_filter, lawful_group}
 use Rattle.query.specs.Lawful.{limited, triples_in, nodes_in}
 use Rattle.query.specs.Limits.{within, most_alternatives, most_blocks, most_in_all}
 use Rattle.query.specs.Parts.{Group}
@@ -23,13 +24,13 @@ within_high low high n w = leb-true n high (and_parts (leb low n) (leb n high) w
 pub record GroupLimits (g : Group) : Type 0 where
   pub required : lawful_triples 0 g.required ≡ true
   pub few : within 0 most_blocks (length g.blocks) ≡ true
-  pub blocks : every lawful_part g.blocks ≡ true
+  pub blocks : list_all lawful_part g.blocks ≡ true
   pub filter : lawful_filter g.filter ≡ true
 
 pub group_limits : (g : Group) → lawful_group g ≡ true → GroupLimits g
 group_limits g h =
     let few = within 0 most_blocks (length g.blocks) in
-    let blocks = every lawful_part g.blocks in
+    let blocks = list_all lawful_part g.blocks in
     let filter = lawful_filter g.filter in
     let a = and_parts (lawful_triples 0 g.required) (few && (blocks && filter)) h in
     let b = and_parts few (blocks && filter) a.1 in
@@ -41,13 +42,13 @@ group_limits g h =
 -- the limits of a query, each by itself
 pub record QueryLimits (q : List Group) : Type 0 where
   pub few : within 1 most_alternatives (length q) ≡ true
-  pub groups : every lawful_group q ≡ true
+  pub groups : list_all lawful_group q ≡ true
   pub triples : total triples_in q ≤ most_in_all
   pub nodes : total nodes_in q ≤ most_in_all
 
 pub query_limits : (q : List Group) → limited q ≡ true → QueryLimits q
 query_limits q h =
-    let groups = every lawful_group q in
+    let groups = list_all lawful_group q in
     let triples = leb (total triples_in q) most_in_all in
     let nodes = leb (total nodes_in q) most_in_all in
     let a = and_parts (within 1 most_alternatives (length q)) (groups && (triples && nodes)) h in

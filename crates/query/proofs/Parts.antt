@@ -7,7 +7,8 @@ use Rattle.query.specs.declared.pattern.TriplePattern.{TriplePattern}
 use Rattle.query.specs.Parts.{Part, Group}
 use Rattle.query.specs.Limits.{within}
 use Rattle.query.specs.Format.{triple_bytes, node_bytes, part_bytes, group_bytes, counted, bytes_of}
-use Rattle.query.specs.Lawful.{every, total, lawful_triple, lawful_node, lawful_nodes, lawful_filter}
+use Rattle.std.specs.List.{list_all}
+use Rattle.query.specs.Lawful.{total, lawful_triple, lawful_node, lawful_nodes, lawful_filter}
 use Rattle.query.specs.Lawful.{lawful_triples, lawful_part, lawful_group, limited, triples_in, nodes_in}
 use Rattle.query.specs.Limits.{most_in_part, most_in_all, most_blocks, most_alternatives}
 use Rattle.query.specs.Grammar.{triple, triples, node, filter, room, Used, block, blocks}
@@ -22,14 +23,14 @@ use Rattle.query.proofs.Codecs.{triple_codec, node_codec}
 -- triples
 
 each_every : (i : ℕ) (ts : List TriplePattern)
-    → Each (λ (_ : ℕ) t. lawful_triple t ≡ true) (λ i _. i + 1) i ts → every lawful_triple ts ≡ true
+    → Each (λ (_ : ℕ) t. lawful_triple t ≡ true) (λ i _. i + 1) i ts → list_all lawful_triple ts ≡ true
 each_every i [] h = refl
 each_every i (t ∷ ts) h = and_from _ _ h.0 (each_every (i + 1) ts h.1)
 
-every_each : (i : ℕ) (ts : List TriplePattern) → every lawful_triple ts ≡ true
+every_each : (i : ℕ) (ts : List TriplePattern) → list_all lawful_triple ts ≡ true
     → Each (λ (_ : ℕ) t. lawful_triple t ≡ true) (λ i _. i + 1) i ts
 every_each i [] h = tt
-every_each i (t ∷ ts) h = let w = and_parts (lawful_triple t) (every lawful_triple ts) h in
+every_each i (t ∷ ts) h = let w = and_parts (lawful_triple t) (list_all lawful_triple ts) h in
     (w.0, every_each (i + 1) ts w.1)
 
 -- so many lawful triples, and no more in all than there may be
@@ -45,7 +46,7 @@ triples_codec low used =
     (λ ts. (within low (room used) (length ts) ≡ true)
     × ((length ts ≡ length ts) × Each (λ (_ : ℕ) t. lawful_triple t ≡ true) (λ i _. i + 1) 0 ts))
     (Triples low used)
-    (λ ts h. let w = and_parts (within low most_in_part (length ts)) (every lawful_triple ts) h.0 in (
+    (λ ts h. let w = and_parts (within low most_in_part (length ts)) (list_all lawful_triple ts) h.0 in (
       within_from low (room used) (length ts) (within_low low most_in_part (length ts) w.0)
           (omega (arith, within_high low most_in_part (length ts) w.0, h.1)),
       (refl, every_each 0 ts w.1),
@@ -116,18 +117,18 @@ module _ {A : Type 0} (ok : A → Bool) (triples_of nodes_of : A → ℕ) where
   -- each element lawful and with room for it is all lawful and room for all
   all_of_each : (u : Used) (xs : List A) → Fits u
       → Each (λ u a. (ok a ≡ true) × Room u (triples_of a) (nodes_of a)) more u xs
-      → (every ok xs ≡ true) × Room u (total triples_of xs) (total nodes_of xs)
+      → (list_all ok xs ≡ true) × Room u (total triples_of xs) (total nodes_of xs)
   all_of_each u [] f h = (refl, (omega (arith, f.0), omega (arith, f.1)))
   all_of_each u (x ∷ xs) f h =
       let r = all_of_each (more u x) xs h.0.1 h.1 in
       (and_from _ _ h.0.0 r.0, (omega (arith, r.1.0), omega (arith, r.1.1)))
 
-  each_of_all : (u : Used) (xs : List A) → every ok xs ≡ true
+  each_of_all : (u : Used) (xs : List A) → list_all ok xs ≡ true
       → Room u (total triples_of xs) (total nodes_of xs)
       → Each (λ u a. (ok a ≡ true) × Room u (triples_of a) (nodes_of a)) more u xs
   each_of_all u [] h r = tt
   each_of_all u (x ∷ xs) h r =
-      let w = and_parts (ok x) (every ok xs) h in (
+      let w = and_parts (ok x) (list_all ok xs) h in (
         (w.0, (omega (arith, r.0), omega (arith, r.1))),
         each_of_all (more u x) xs w.1 (omega (arith, r.0), omega (arith, r.1)),
       )
@@ -154,7 +155,7 @@ block_codec u f =
 abbrev BlocksOk : Used → List Part → Type 0
 BlocksOk u bs =
     (within 0 most_blocks (length bs) ≡ true)
-    × ((every lawful_part bs ≡ true)
+    × ((list_all lawful_part bs ≡ true)
     × Room u (total (λ b. length b.triples) bs) (total (λ b. length b.filter) bs))
 
 blocks_codec : (u : Used) → Fits u → Codec (blocks u) (counted part_bytes) (BlocksOk u)

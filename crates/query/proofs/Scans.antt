@@ -1,12 +1,10 @@
 -- What has come in while the items of a list are read. Assumes nothing.
 --     Sofar ..    so many items came in, the rest of the list gives the answer, and the builder holds the
 --                 draft with them
-use Rattle.std.proofs.Common.{◌≡◌, ℕ, suc, ◌+◌, ◌-◌, ◌<◌, ◌≤◌, List, [], ◌∷◌, ◌++◌, length, drop, Err, Result}
-use Rattle.std.proofs.Common.{sym, refl, ap, ◌∙◌, subst, add-zero, arith}
+use Rattle.std.proofs.Common.{◌≡◌, ℕ, suc, ◌+◌, ◌-◌, ◌<◌, ◌≤◌, List, [], ◌∷◌, ◌++◌, length, Ok, Err, Result}
+use Rattle.std.proofs.Common.{sym, refl, ap, ◌∙◌, add-zero, arith}
 use Rattle.std.proofs.lemmas.List.{length_push}
-use Rattle.refusal.specs.declared.refusal.Refusal.{Refusal}
 use Rattle.refusal.specs.declared.rejection.Rejection.{Rejection}
-use Rattle.varint.specs.Encode.{largest}
 use Rattle.query.specs.declared.cursor.Cursor.{Cursor}
 use Rattle.query.specs.Readers as readers
 use Rattle.query.specs.Grammar.{Used, with_part, with_parts}
@@ -16,8 +14,7 @@ use Rattle.query.specs.Lawful.{total, triples_in, nodes_in}
 use Rattle.query.specs.Parts.{Part, Group}
 use Rattle.query.proofs.Lawful.{total_push}
 use Rattle.query.specs.Scanning.{ahead, Takes}
-use Rattle.query.proofs.Limits.{within_high}
-use Rattle.query.proofs.Sequences.{count_codec}
+use Rattle.std.specs.Result.{IsErrAnd}
 use Rattle.query.proofs.Loops.{prefixed, prefixed_none, times_more, times_refused, times_done, series_took}
 use Rattle.query.proofs.Loops.{series_refused}
 
@@ -27,102 +24,84 @@ pub record Sofar {S A : Type 0} (item : S → Reader A) (step : S → A → S) (
     (Held : List A → Type 0) : Type 0 where
   pub items : List A
   pub many : length items ≡ taken
+  pub within : taken ≤ count
   pub left : ahead (times count item step (state [])) start
       ≡ prefixed items (ahead (times (count - taken) item step (state items)) here)
   pub held : Held items
 
-module _ {S A : Type 0} (item : S → Reader A) (step : S → A → S) (state : List A → S) (count taken : ℕ)
-    (start here : Cursor)
-    (Held : List A → Type 0) where
-  pub sofar_none : Held [] → Sofar item step state count 0 start start Held
-  sofar_none h = record {
-    items = [];
-    many = refl;
-    left =
-        let all : count ≡ count - 0 = omega arith in
-        prefixed_none (ahead (times count item step (state [])) start)
-        ∙ ap (λ n. prefixed [] (ahead (times n item step (state [])) start)) all;
-    held = h;
-  }
+-- no item came in yet
+pub sofar_none : {S A : Type 0} {item : S → Reader A} {step : S → A → S} {state : List A → S} {count : ℕ}
+    {start : Cursor} {Held : List A → Type 0}
+    → Held [] → Sofar item step state count 0 start start Held
+sofar_none {item = item} {step = step} {state = state} {count = count} {start = start} h = record {
+  items = [];
+  many = refl;
+  within = omega arith;
+  left =
+      let all : count ≡ count - 0 = omega arith in
+      prefixed_none (ahead (times count item step (state [])) start)
+      ∙ ap (λ n. prefixed [] (ahead (times n item step (state [])) start)) all;
+  held = h;
+}
 
+module _ {S A : Type 0} {item : S → Reader A} {step : S → A → S} {state : List A → S} {count taken : ℕ}
+    {start here : Cursor} {Held : List A → Type 0} where
   module _ (s : Sofar item step state count taken start here Held) where
+    abbrev whole : Read (List A)
+    whole = ahead (times count item step (state [])) start
+
     -- what is left is one more than what is left after the next
     left_next : taken < count
-        → ahead (times count item step (state [])) start
-        ≡ prefixed s.items (ahead (times (suc (count - (taken + 1))) item step (state s.items)) here)
+        → whole ≡ prefixed s.items (ahead (times (suc (count - (taken + 1))) item step (state s.items)) here)
     left_next l =
         let less : count - taken ≡ suc (count - (taken + 1)) = omega arith in
         s.left ∙ ap (λ n. prefixed s.items (ahead (times n item step (state s.items)) here)) less
 
+    -- the next item came in
     pub sofar_more : (x : A) (there : Cursor) (After : List A → Type 0) → taken < count
-        → ahead (item (state s.items)) here ≡ took x there.at (drop there.at there.bytes.now)
+        → ahead (item (state s.items)) here ≡ took x there.at there.rest.now
         → state (s.items ++ x ∷ []) ≡ step (state s.items) x → After (s.items ++ x ∷ [])
         → Sofar item step state count (taken + 1) start there After
     sofar_more x there After l t e h = record {
       items = s.items ++ x ∷ [];
       many = omega (arith, length_push s.items x, s.many);
+      within = omega (arith, l);
       left =
-          times_more item step (ahead (times count item step (state [])) start) s.items (state s.items)
-          here.at
-          (drop here.at here.bytes.now) (count - (taken + 1)) x there.at
-          (drop there.at there.bytes.now) (left_next l) t
+          times_more item step whole s.items (state s.items) here.at here.rest.now (count - (taken + 1)) x
+          there.at there.rest.now (left_next l) t
           ∙ ap (λ z. prefixed (s.items ++ x ∷ []) (ahead (times (count - (taken + 1)) item step z) there))
           (sym e);
       held = h;
     }
 
-    sofar_refused : (r : Refusal) (q : ℕ) → taken < count → ahead (item (state s.items)) here ≡ refused r q
-        → ahead (times count item step (state [])) start ≡ refused r q
-    sofar_refused r q l t =
-        times_refused item step (ahead (times count item step (state [])) start) s.items
-        (state s.items) here.at
-        (drop here.at here.bytes.now) (count - (taken + 1)) r q (left_next l) t
-
-    sofar_done : count ≤ taken
-        → ahead (times count item step (state [])) start
-        ≡ took s.items here.at (drop here.at here.bytes.now)
-    sofar_done l =
-        let none : count - taken ≡ 0 = omega arith in
-        times_done item step (ahead (times count item step (state [])) start) s.items (state s.items)
-        here.at
-        (drop here.at here.bytes.now)
-        (s.left ∙ ap (λ n. prefixed s.items (ahead (times n item step (state s.items)) here)) none)
-
     module _ (low high : ℕ) (before : Cursor)
-        (counted : ahead (readers.count low high) before
-        ≡ took count start.at (drop start.at start.bytes.now)) where
+        (counted : ahead (readers.count low high) before ≡ took count start.at start.rest.now)
+        (first : S) (from : state [] ≡ first) where
+      -- every item came in
       pub sofar_all : count ≤ taken
-          → ahead (series low high item step (state [])) before
-          ≡ took s.items here.at (drop here.at here.bytes.now)
+          → ahead (series low high item step first) before ≡ took s.items here.at here.rest.now
       sofar_all l =
-          series_took low high item step (state []) before.at (drop before.at before.bytes.now)
-          count start.at
-          (drop start.at start.bytes.now) s.items here.at (drop here.at here.bytes.now)
-          counted (sofar_done l)
+          let none : count - taken ≡ 0 = omega arith in
+          ap (λ z. ahead (series low high item step z) before) (sym from)
+          ∙ series_took low high item step (state []) before.at before.rest.now count start.at start.rest.now
+          s.items here.at here.rest.now counted
+          (times_done item step whole s.items (state s.items) here.at here.rest.now
+          (s.left ∙ ap (λ n. prefixed s.items (ahead (times n item step (state s.items)) here)) none))
 
-      pub sofar_stopped : (r : Refusal) (q : ℕ) → taken < count → ahead (item (state s.items)) here
-          ≡ refused r q
-          → ahead (series low high item step (state [])) before ≡ refused r q
-      sofar_stopped r q l t =
-          series_refused low high item step (state []) before.at (drop before.at before.bytes.now)
-          count start.at
-          (drop start.at start.bytes.now) r q counted (sofar_refused r q l t)
-
--- count
-
-pub count_high : (low high n : ℕ) (c : Cursor) (after : ℕ) (rest : List ℕ) → high ≤ largest
-    → ahead (readers.count low high) c ≡ took n after rest → n ≤ high
-count_high low high n c after rest small e =
-    within_high low high n
-    ((count_codec low high small).only c.at (drop c.at c.bytes.now) n after rest e).0
-
--- Takes
-
-pub takes_refused : {A T : Type 0} (m : Read A) (r : Result T Rejection) (c : Cursor) (K : A → Type 0)
-    (e f : Rejection)
-    → r ≡ Err e → e ≡ f → m ≡ refused f.refusal f.place → Takes m r c K
-takes_refused m r c K e f is same h =
-    subst (λ x. Takes m x c K) (sym (is ∙ ap Err same)) h
+      -- the next item was refused
+      pub sofar_refused : {T : Type 0} (r : Result T Rejection) (c : Cursor) (K : List A → Type 0)
+          (e : Rejection)
+          → IsErrAnd r (λ f. f ≡ e) → taken < count
+          → ahead (item (state s.items)) here ≡ refused e.refusal e.place
+          → Takes (ahead (series low high item step first) before) r c K
+      sofar_refused (Ok x) c K e is l t = absurd is
+      sofar_refused (Err f) c K e is l t =
+          ap (λ z. ahead (series low high item step z) before) (sym from)
+          ∙ series_refused low high item step (state []) before.at before.rest.now count start.at
+          start.rest.now
+          f.refusal f.place counted
+          (times_refused item step whole s.items (state s.items) here.at here.rest.now (count - (taken + 1))
+          f.refusal f.place (left_next l) (t ∙ ap (λ g. refused g.refusal g.place) (sym is)))
 
 -- Used
 

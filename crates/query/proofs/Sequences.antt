@@ -146,7 +146,8 @@ module _ {A B C : Type 0} (p : Reader A) (q : A → Reader B) (c : A → B → C
         (left : C → A) (right : C → B)
         → ((x : C) → c (left x) (right x) ≡ x)
         → ((a : A) (b : B) → OkB a b → (left (c a b) ≡ a) × (right (c a b) ≡ b))
-        → Codec (both p q c) (λ x. enc (left x) ++ enc_b (right x)) (λ x. Ok (left x) × OkB (left x) (right x))
+        → Codec (both p q c) (λ x. enc (left x) ++ enc_b (right x)) (λ x. Ok (left x) × OkB (left x) (right
+        x))
     both_codec enc_b OkB second left right whole apart = record {
       back = λ x at rest h.
           both_back (left x) (right x) (enc_b (right x)) at rest h.0

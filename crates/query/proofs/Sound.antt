@@ -12,7 +12,8 @@ use Rattle.query.specs.declared.node.Node.TheVariants.{Equal, Less, Bound, Not, 
 use Rattle.query.specs.declared.pattern.TriplePattern.{TriplePattern}
 use Rattle.query.specs.Limits.{within}
 use Rattle.query.specs.Format.{counted}
-use Rattle.query.specs.Lawful.{every, lawful_triple, lawful_triples, lawful_node, lawful_nodes, lawful_filter}
+use Rattle.std.specs.List.{list_all}
+use Rattle.query.specs.Lawful.{lawful_triple, lawful_triples, lawful_node, lawful_nodes, lawful_filter}
 use Rattle.query.specs.Limits.{most_in_part}
 use Rattle.query.specs.Writes.{places_lawful}
 use Rattle.query.proofs.Limits.{within_high}
@@ -23,14 +24,14 @@ Writable ok xs = (length xs ≤ largest) × All (λ x. ok x ≡ true) xs
 
 -- every
 
-all_every : {A : Type 0} (ok : A → Bool) (xs : List A) → every ok xs ≡ true → All (λ x. ok x ≡ true) xs
+all_every : {A : Type 0} (ok : A → Bool) (xs : List A) → list_all ok xs ≡ true → All (λ x. ok x ≡ true) xs
 all_every ok [] h = All-nil (λ x. ok x ≡ true)
 all_every ok (x ∷ xs) h =
-    let w = and_parts (ok x) (every ok xs) h in
+    let w = and_parts (ok x) (list_all ok xs) h in
     All-cons (λ x. ok x ≡ true) x xs w.0 (all_every ok xs w.1)
 
 every_map : {A B : Type 0} (f : A → B) (ok : B → Bool) (xs : List A)
-    → every ok (map f xs) ≡ every (λ x. ok (f x)) xs
+    → list_all ok (map f xs) ≡ list_all (λ x. ok (f x)) xs
 every_map f ok [] = refl
 every_map f ok (x ∷ xs) = ap (λ b. ok (f x) && b) (every_map f ok xs)
 
@@ -42,7 +43,7 @@ few low high n s h = omega (arith, within_high low high n h)
 pub triples_writable : (low : ℕ) (ts : List TriplePattern) → lawful_triples low ts ≡ true
     → Writable lawful_triple ts
 triples_writable low ts h =
-    let w = and_parts (within low most_in_part (length ts)) (every lawful_triple ts) h in
+    let w = and_parts (within low most_in_part (length ts)) (list_all lawful_triple ts) h in
     (few low most_in_part (length ts) (omega arith) w.0, all_every lawful_triple ts w.1)
 
 -- nodes
@@ -70,7 +71,7 @@ filter_writable ns h =
 
 pub mapped_writable : {A B : Type 0} (f : A → B) (ok : B → Bool) (low high : ℕ) (xs : List A) → high
     ≤ most_in_part
-    → within low high (length (map f xs)) ≡ true → every ok (map f xs) ≡ true → Writable (λ x. ok (f x)) xs
+    → within low high (length (map f xs)) ≡ true → list_all ok (map f xs) ≡ true → Writable (λ x. ok (f x)) xs
 mapped_writable f ok low high xs s h e = (
   omega (arith, few low high (length (map f xs)) s h, length-map xs f),
   all_every (λ x. ok (f x)) xs (sym (every_map f ok xs) ∙ e),

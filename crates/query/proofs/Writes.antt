@@ -5,7 +5,8 @@ use Rattle.std.proofs.lemmas.List.{append_assoc, length-append, length-take-le, 
 use Rattle.std.proofs.lemmas.List.{drop-drop, take-append-drop, at_drop_more, at_drop_all}
 use Rattle.std.specs.List.{flat_map}
 use Rattle.varint.specs.Calls.{placed}
-use Rattle.query.specs.Writes.{Put}
+use Rattle.query.specs.declared.put.Writer.{Writer}
+use Rattle.query.specs.Writes.{Put, Fits, Puts}
 
 -- placed
 
@@ -55,6 +56,14 @@ put_append a b at mid end out then after h p q = (
   q.1 ∙ ap (λ l. placed l mid b) p.1 ∙ ap (λ k. placed (placed out at a) k b) p.0
       ∙ placed-append out at a b h,
 )
+
+-- the same, of a writer
+pub puts_append : (a b : List ℕ) (w v u : Writer) → Fits (a ++ b) w → Puts a w v → Puts b v u → Puts (a ++
+    b) w u
+puts_append a b w v u h p q = record {
+  put = put_append a b w.at v.at u.at w.out.now v.out.now u.out.now h p.put q.put;
+  same = q.same ∙ p.same;
+}
 
 -- a writing leaves the buffer as long as it was
 pub length_put : (a : List ℕ) (at r : ℕ) (out after : List ℕ) → at + length a ≤ length out

@@ -1,15 +1,15 @@
 -- What the builder knows of the query that comes in. Assumes nothing.
 --     Tracks b d    the builder b knows the variables of the draft d, and keeps d if it keeps anything
-use Rattle.std.specs.Prelude.{◌≡◌, ℕ, ◌<◌, true, length, get_or, Some, None, Option, slice_index_or}
+use Rattle.std.specs.Prelude.{◌≡◌, ℕ, ◌<◌, true, length, Some, None, Option}
 use Rattle.query.specs.declared.builder.Builder.{Builder}
 use Rattle.query.specs.declared.kept.Kept.{Kept}
 use Rattle.query.specs.declared.query.Query.{Query}
-use Rattle.query.specs.declared.variables.VariableSet.{VariableSet}
-use Rattle.query.specs.Parts.{Part}
 use Rattle.query.specs.Format.{bytes_of}
-use Rattle.query.specs.Lawful.{some, shares, lawful}
+use Rattle.std.specs.List.{list_any}
+use Rattle.query.specs.Lawful.{in_two, shares, lawful}
+use Rattle.query.specs.Limits.{variables}
 use Rattle.query.specs.Shape.{shape}
-use Rattle.query.specs.Variables.{Gathers}
+use Rattle.query.specs.Variables.{member, mentioned, Gathers}
 use Rattle.query.specs.Grammar.{Used}
 use Rattle.query.specs.Drafts.{Draft, Keeps, draft_of}
 
@@ -17,15 +17,19 @@ use Rattle.query.specs.Drafts.{Draft, Keeps, draft_of}
 pub record Tracks (b : Builder) (d : Draft) : Type 0 where
   pub part : Gathers b.part d.triples
   pub required : Gathers b.required d.required
-  pub counted : b.count ≡ length d.blocks
-  pub blocks : (k : ℕ) (s : VariableSet) (p : Part) → k < length d.blocks
-      → Gathers (slice_index_or b.blocks k s) (get_or d.blocks k p).triples
-  pub shared : b.shared ≡ some shares d.done
+  pub once : (v : ℕ) → v < variables → member v b.in_blocks ≡ list_any (mentioned v) d.blocks
+  pub twice : (v : ℕ) → v < variables → member v b.in_two_blocks ≡ in_two (mentioned v) d.blocks
+  pub shared : b.shared ≡ list_any shares d.done
   pub kept : Keeps b.kept d
 
 -- how many triples and nodes the builder has counted
 abbrev pub used_of : Builder → Used
-used_of b = record { triples = b.triples; nodes = b.nodes }
+used_of b = record { triples = b.triples.total; nodes = b.nodes.total }
+
+-- from b to b' the draft took the step, whichever it was, and nothing was counted
+pub record Follows (step : Draft → Draft) (b b' : Builder) : Type 0 where
+  pub tracks : (d : Draft) → Tracks b d → Tracks b' (step d)
+  pub used : used_of b' ≡ used_of b
 
 -- the parts that b keeps, if it keeps any, are a lawful query that takes size bytes
 abbrev pub Finishes : Builder → ℕ → Type 0

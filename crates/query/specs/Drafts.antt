@@ -4,8 +4,6 @@ use Rattle.std.specs.Prelude.{◌≡◌, List, [], ◌∷◌, ◌++◌, map, Som
 use Rattle.query.specs.declared.node.Node as node
 use Rattle.query.specs.declared.pattern.TriplePattern.{TriplePattern}
 use Rattle.query.specs.declared.kept.Kept.{Kept}
-use Rattle.query.specs.declared.step.Step.{Step}
-use Rattle.query.specs.declared.step.Step.TheVariants.{Triple, Node, EndRequired, EndBlock, EndAlternative}
 use Rattle.query.specs.Parts.{Part, Group, part_of, group_of}
 
 -- what has come in: alternatives, required triples and blocks, and the triples and nodes of the part in work
@@ -87,14 +85,6 @@ alternative_ended d = record {
   triples = d.triples;
   nodes = [];
 }
-
--- the draft after a step
-abbrev pub stepped : Draft → Step → Draft
-stepped d (Triple t) = with_triple d t
-stepped d (Node n) = with_node d n
-stepped d EndRequired = required_ended d
-stepped d EndBlock = block_ended d
-stepped d EndAlternative = alternative_ended d
 
 -- the draft that is kept in memory
 abbrev pub draft_of : Kept → Draft

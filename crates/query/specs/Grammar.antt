@@ -16,7 +16,8 @@ use Rattle.query.specs.declared.pattern.TriplePattern.{TriplePattern}
 use Rattle.query.specs.Parts.{Part, Group}
 use Rattle.query.specs.Codes.{when, place_from, kind_from}
 use Rattle.query.specs.Limits.{within, most_variable}
-use Rattle.query.specs.Lawful.{total, triples_in, nodes_in, shares, some}
+use Rattle.std.specs.List.{list_any}
+use Rattle.query.specs.Lawful.{total, triples_in, nodes_in, shares}
 use Rattle.query.specs.Limits.{most_alternatives, most_blocks}
 use Rattle.query.specs.Limits.{most_in_part, most_in_all}
 use Rattle.query.specs.Readers.{Read, took, refused, Reader, role, one, both, series}
@@ -131,7 +132,7 @@ pub data Verdict : Type 0 where
 abbrev pub concluded : Read (List Group) → Verdict
 concluded (refused r at) = rejected r at
 concluded (took q at (b ∷ bytes)) = rejected BytesLeft at
-concluded (took q at []) = cond (some shares q) (rejected SharedByBlocks at) (accepted q)
+concluded (took q at []) = cond (list_any shares q) (rejected SharedByBlocks at) (accepted q)
 
 -- what the byte string is
 unfoldable pub verdict : List ℕ → Verdict

@@ -4,6 +4,7 @@
 --                  the required triples
 use Rattle.std.specs.Prelude.{ℕ, zero, suc, ◌+◌, Bool, true, false, not, ◌&&◌, ◌||◌, List, [], ◌∷◌, length}
 use Rattle.std.specs.Prelude.{◌==◌, nat_le, nat_lt}
+use Rattle.std.specs.List.{list_all, list_any}
 use Rattle.query.specs.declared.place.Place.{Place}
 use Rattle.query.specs.declared.place.Place.TheVariants.{Variable, Term}
 use Rattle.query.specs.declared.node.Node.{Node}
@@ -13,22 +14,13 @@ use Rattle.query.specs.Parts.{Part, Group}
 use Rattle.query.specs.Limits.{within, lawful_place, most_variable, variables}
 use Rattle.query.specs.Limits.{most_alternatives, most_blocks, most_in_part, most_in_all}
 
--- p holds of every element
-abbrev pub every : {A : Type 0} → (A → Bool) → List A → Bool
-every p [] = true
-every p (x ∷ xs) = p x && every p xs
-
--- p holds of some element
-abbrev pub some : {A : Type 0} → (A → Bool) → List A → Bool
-some p [] = false
-some p (x ∷ xs) = p x || some p xs
-
 -- p holds of two elements
 abbrev pub in_two : {A : Type 0} → (A → Bool) → List A → Bool
 in_two p [] = false
-in_two p (x ∷ xs) = (p x && some p xs) || in_two p xs
+in_two p (x ∷ xs) = (p x && list_any p xs) || in_two p xs
 
--- the sum of f over the elements
+-- the sum of f over the elements; the library's sum_by folds from the left, and does not unfold at a first
+-- element, as the laws of the grammar need
 abbrev pub total : {A : Type 0} → (A → ℕ) → List A → ℕ
 total f [] = 0
 total f (x ∷ xs) = f x + total f xs
@@ -57,7 +49,7 @@ lawful_filter ns = within 0 most_in_part (length ns) && lawful_nodes 0 ns
 
 -- at least low and at most sixteen lawful triples
 abbrev pub lawful_triples : ℕ → List TriplePattern → Bool
-lawful_triples low ts = within low most_in_part (length ts) && every lawful_triple ts
+lawful_triples low ts = within low most_in_part (length ts) && list_all lawful_triple ts
 
 -- a block has at least one triple
 abbrev pub lawful_part : Part → Bool
@@ -70,7 +62,7 @@ is_variable v (Term t) = false
 
 -- the variable v is in one of the triples
 abbrev pub mentions : ℕ → List TriplePattern → Bool
-mentions v ts = some (λ t. is_variable v t.subject
+mentions v ts = list_any (λ t. is_variable v t.subject
     || (is_variable v t.property || is_variable v t.object)) ts
 
 -- some variable below n is in the triples of two blocks and not in the required triples
@@ -96,15 +88,15 @@ abbrev pub lawful_group : Group → Bool
 lawful_group g =
     lawful_triples 0 g.required
     && (within 0 most_blocks (length g.blocks)
-    && (every lawful_part g.blocks && lawful_filter g.filter))
+    && (list_all lawful_part g.blocks && lawful_filter g.filter))
 
 -- a query keeps its limits
 abbrev pub limited : List Group → Bool
 limited q =
     within 1 most_alternatives (length q)
-    && (every lawful_group q
+    && (list_all lawful_group q
     && (nat_le (total triples_in q) most_in_all && nat_le (total nodes_in q) most_in_all))
 
 -- a query keeps its limits, and no alternative's blocks share a variable that its required triples lack
 abbrev pub lawful : List Group → Bool
-lawful q = limited q && not (some shares q)
+lawful q = limited q && not (list_any shares q)

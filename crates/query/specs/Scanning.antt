@@ -2,7 +2,7 @@
 --     ahead p c        what the reader p makes of the bytes from the cursor c on
 --     Reads m r c      r and the cursor c after it are what m says
 --     Takes m r c K    the part that m says came in, and K holds of it; or r is the refusal that m says
-use Rattle.std.specs.Prelude.{◌≡◌, ℕ, List, [], ◌∷◌, ◌++◌, length, drop, Ok, Err, Result}
+use Rattle.std.specs.Prelude.{◌≡◌, ℕ, List, [], ◌∷◌, ◌++◌, length, Ok, Err, Result}
 use Rattle.refusal.specs.declared.rejection.Rejection.{Rejection}
 use Rattle.query.specs.declared.builder.Builder.{Builder}
 use Rattle.query.specs.declared.cursor.Cursor.{Cursor}
@@ -17,16 +17,16 @@ use Rattle.query.specs.Building.{Tracks, used_of}
 
 -- what the reader makes of the bytes from the cursor on
 abbrev pub ahead : {A : Type 0} → Reader A → Cursor → Read A
-ahead p c = p c.at (drop c.at c.bytes.now)
+ahead p c = p c.at c.rest.now
 
 -- the value, with the cursor behind it; or the refusal with its place
 abbrev pub Reads : {A : Type 0} → Read A → Result A Rejection → Cursor → Type 0
-Reads m (Ok a) c = m ≡ took a c.at (drop c.at c.bytes.now)
+Reads m (Ok a) c = m ≡ took a c.at c.rest.now
 Reads m (Err e) c = m ≡ refused e.refusal e.place
 
 -- a part of which K holds, with the cursor behind it; or the refusal with its place
 abbrev pub Takes : {A T : Type 0} → Read A → Result T Rejection → Cursor → (A → Type 0) → Type 0
-Takes {A} m (Ok _) c K = (a : A) × ((m ≡ took a c.at (drop c.at c.bytes.now)) × K a)
+Takes {A} m (Ok _) c K = (a : A) × ((m ≡ took a c.at c.rest.now) × K a)
 Takes m (Err e) c K = m ≡ refused e.refusal e.place
 
 -- the builder tracks the draft and has counted so much
@@ -39,19 +39,18 @@ pub record Holds (b : Builder) (d : Draft) (u : Used) : Type 0 where
 -- at least low triples
 abbrev pub TookTriples : {T : Type 0} → ℕ → Builder → Cursor → Result T Rejection → Builder → Cursor → Type 0
 TookTriples low b c r b' c' = (d : Draft) → Tracks b d
-    → Takes (ahead (triples low b.triples) c) r c'
+    → Takes (ahead (triples low b.triples.total) c) r c'
     (λ ts. Holds b' (with_triples_in d ts) (with_triples (used_of b) (length ts)))
 
 -- a filter
 abbrev pub TookFilter : {T : Type 0} → Builder → Cursor → Result T Rejection → Builder → Cursor → Type 0
 TookFilter b c r b' c' = (d : Draft) → Tracks b d
-    → Takes (ahead (filter b.nodes) c) r c'
+    → Takes (ahead (filter b.nodes.total) c) r c'
     (λ ns. Holds b' (with_nodes_in d ns) (with_nodes (used_of b) (length ns)))
 
--- block number i of an alternative
-abbrev pub TookBlock : {T : Type 0} → ℕ → Builder → Cursor → Result T Rejection → Builder → Cursor → Type 0
-TookBlock i b c r b' c' =
-    (done : List Group) (required : List TriplePattern) (before : List Part) → i ≡ length before
+-- a block of an alternative
+abbrev pub TookBlock : {T : Type 0} → Builder → Cursor → Result T Rejection → Builder → Cursor → Type 0
+TookBlock b c r b' c' = (done : List Group) (required : List TriplePattern) (before : List Part)
     → Tracks b (finished done required before)
     → Takes (ahead (block (used_of b)) c) r c'
     (λ p. Holds b' (finished done required (before ++ p ∷ [])) (with_part (used_of b) p))

@@ -4,12 +4,22 @@ use Rattle.varint.specs.Calls.{placed}
 use Rattle.refusal.specs.declared.refusal.Refusal.TheVariants.{BufferShort}
 use Rattle.refusal.specs.declared.rejection.Rejection.{Rejection}
 use Rattle.query.specs.declared.node.Node.{Node}
+use Rattle.query.specs.declared.put.Writer.{Writer}
 use Rattle.query.specs.declared.node.Node.TheVariants.{Equal, Less, Bound, Not, And, Or}
 use Rattle.query.specs.Limits.{lawful_place}
 
 -- the bytes stand at the place at, over what stood there, and r is the place behind them
 abbrev pub Put : List ℕ → ℕ → List ℕ → ℕ → List ℕ → Type 0
 Put bytes at before r after = (r ≡ at + length bytes) × (after ≡ placed before at bytes)
+
+-- the bytes fit between the writer's place and the end of its buffer
+abbrev pub Fits : List ℕ → Writer → Type 0
+Fits bytes w = w.at + length bytes ≤ length w.out.now
+
+-- from w to w' the bytes were put where the writer was, in the same buffer
+pub record Puts (bytes : List ℕ) (w w' : Writer) : Type 0 where
+  pub put : Put bytes w.at w.out.now w'.at w'.out.now
+  pub same : w'.out.ghost_name ≡ w.out.ghost_name
 
 -- the places that the node compares are lawful
 abbrev pub places_lawful : Node → Bool

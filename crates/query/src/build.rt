@@ -1,20 +1,17 @@
 //! Building a query from the steps in which it comes in.
-ghost use Rattle.std.specs.Prelude.{◌≡◌, ◌<◌, length};
-ghost use Rattle.query.specs.Building.{Tracks, used_of, Finishes, Finished};
-ghost use Rattle.query.specs.Drafts.{Draft, fresh, stepped, Keeps};
-ghost use Rattle.query.specs.Limits.{most_blocks, most_in_all};
-ghost use Rattle.query.specs.Grammar.{room, unused, with_triples, with_nodes};
-ghost use Rattle.query.specs.declared.step.Step.TheVariants.{Triple, Node as NodeStep, EndRequired};
-ghost use Rattle.query.specs.declared.step.Step.TheVariants.{EndBlock, EndAlternative};
+ghost use Rattle.std.specs.Prelude.{◌≡◌};
+ghost use Rattle.query.specs.Building.{Tracks, Follows, used_of, Finishes, Finished};
+ghost use Rattle.query.specs.Drafts.{fresh, with_triple, with_node, required_ended, block_ended};
+ghost use Rattle.query.specs.Drafts.{alternative_ended, Keeps};
+ghost use Rattle.query.specs.Grammar.{unused};
 
-use crate::builder::{Builder, MOST_BLOCKS, MOST_IN_ALL, MOST_IN_PART};
+use crate::builder::Builder;
 use crate::keep::keep;
 use crate::kept::Kept;
 use crate::node::Node;
 use crate::pattern::TriplePattern;
 use crate::query::Query;
-use crate::sharing::shares;
-use crate::step::Step;
+use crate::tally::Tally;
 use crate::variables::VariableSet;
 
 impl Builder {
@@ -24,88 +21,66 @@ impl Builder {
         ensures tracks { Tracks result fresh }
         ensures used { used_of result ≡ unused }
     {
-        let none = VariableSet::empty();
         Builder {
-            triples: 0,
-            nodes: 0,
-            part: none,
-            required: none,
-            blocks: [none; MOST_BLOCKS],
-            count: 0,
+            triples: Tally::none(),
+            nodes: Tally::none(),
+            part: VariableSet::empty(),
+            required: VariableSet::empty(),
+            in_blocks: VariableSet::empty(),
+            in_two_blocks: VariableSet::empty(),
             shared: false,
             kept,
         }
     }
 
-    /// How many triples a part may have now.
-    pub(crate) fn triple_room(&self) -> u32
-        ensures { result ≡ room self.now.triples }
-    {
-        MOST_IN_PART.min(MOST_IN_ALL - self.triples)
-    }
-
-    /// How many nodes a filter may have now.
-    pub(crate) fn node_room(&self) -> u32
-        ensures { result ≡ room self.now.nodes }
-    {
-        MOST_IN_PART.min(MOST_IN_ALL - self.nodes)
-    }
-
     /// A triple of the part in work.
     pub(crate) fn triple(&mut self, triple: TriplePattern)
-        requires { self.old.triples < most_in_all }
-        ensures tracks { (d : Draft) → Tracks self.old d → Tracks self.new (stepped d (Triple triple)) }
-        ensures used { used_of self.new ≡ with_triples (used_of self.old) 1 }
+        ensures { Follows (λ d. with_triple d triple) self.old self.new }
     {
-        self.triples += 1;
         self.part.add_triple(&triple);
-        keep(&mut self.kept, Step::Triple(triple));
+        keep(&mut self.kept, |parts| parts.triple(triple));
     }
 
     /// A node of the filter in work.
     pub(crate) fn node(&mut self, node: Node)
-        requires { self.old.nodes < most_in_all }
-        ensures tracks { (d : Draft) → Tracks self.old d → Tracks self.new (stepped d (NodeStep node)) }
-        ensures used { used_of self.new ≡ with_nodes (used_of self.old) 1 }
+        ensures { Follows (λ d. with_node d node) self.old self.new }
     {
-        self.nodes += 1;
-        keep(&mut self.kept, Step::Node(node));
+        keep(&mut self.kept, |parts| parts.node(node));
     }
 
     /// The triples in work are the required ones.
     pub(crate) fn end_required(&mut self)
-        ensures tracks { (d : Draft) → Tracks self.old d → Tracks self.new (stepped d EndRequired) }
-        ensures used { used_of self.new ≡ used_of self.old }
+        ensures { Follows required_ended self.old self.new }
     {
         self.required = self.part;
         self.part = VariableSet::empty();
-        keep(&mut self.kept, Step::EndRequired);
+        keep(&mut self.kept, |parts| {
+            parts.end_required();
+            Ok(())
+        });
     }
 
-    /// The triples and the filter in work are block number `number`.
-    pub(crate) fn end_block(&mut self, number: usize)
-        requires { number < most_blocks }
-        ensures tracks { (d : Draft) → number ≡ length d.blocks → Tracks self.old d
-            → Tracks self.new (stepped d EndBlock) }
-        ensures used { used_of self.new ≡ used_of self.old }
+    /// The triples and the filter in work are a block.
+    pub(crate) fn end_block(&mut self)
+        ensures { Follows block_ended self.old self.new }
     {
-        self.blocks[number] = self.part;
-        self.count = number + 1;
+        let again = self.in_blocks.intersection(&self.part);
+        self.in_two_blocks = self.in_two_blocks.union(&again);
+        self.in_blocks = self.in_blocks.union(&self.part);
         self.part = VariableSet::empty();
-        keep(&mut self.kept, Step::EndBlock);
+        keep(&mut self.kept, |parts| parts.end_block());
     }
 
     /// The required triples, the blocks and the filter in work are an alternative.
     pub(crate) fn end_alternative(&mut self)
-        ensures tracks { (d : Draft) → Tracks self.old d → Tracks self.new (stepped d EndAlternative) }
-        ensures used { used_of self.new ≡ used_of self.old }
+        ensures { Follows alternative_ended self.old self.new }
     {
-        let blocks = self.blocks;
-        let found = shares(&self.required, &blocks[0..self.count]);
-        self.shared = self.shared || found;
+        let apart = self.in_two_blocks.is_subset(&self.required);
+        self.shared = self.shared || !apart;
         self.required = VariableSet::empty();
-        self.count = 0;
-        keep(&mut self.kept, Step::EndAlternative);
+        self.in_blocks = VariableSet::empty();
+        self.in_two_blocks = VariableSet::empty();
+        keep(&mut self.kept, |parts| parts.end_alternative());
     }
 
     /// The query that has come in, which takes `size` bytes; none where its parts are not kept.
@@ -113,19 +88,7 @@ impl Builder {
         requires { Finishes self size }
         ensures { Finished self result }
     {
-        let Builder {
-            triples: _,
-            nodes: _,
-            part: _,
-            required: _,
-            blocks: _,
-            count: _,
-            shared: _,
-            kept,
-        } = self;
-        match kept {
-            Some(parts) => Some(parts.finish(size)),
-            None => None,
-        }
+        let Builder { kept, .. } = self;
+        kept.map(|parts| parts.finish(size))
     }
 }

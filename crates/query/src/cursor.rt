@@ -1,8 +1,10 @@
 //! A place in a byte string that is read.
+ghost use Rattle.std.specs.Prelude.{◌+◌, ◌<◌, ◌^◌, length};
 
-/// The bytes of a query, and the place that reading has come to.
+/// The bytes of a query that are left to read, and the place at which they begin.
 #[derive(Drop)]
 pub(crate) struct Cursor<'a> {
-    pub(crate) bytes: &'a [u8],
+    pub(crate) rest: &'a [u8],
     pub(crate) at: usize,
+    ghost fits: { at + length rest.now < 2 ^ 64 },
 }

@@ -11,7 +11,7 @@ use crate::block::Block;
 use crate::query::Query;
 
 /// How much a query holds, over all its alternatives.
-#[derive(Clone, Copy)]
+#[derive(Clone, Copy, Debug, PartialEq, Eq)]
 pub struct Counts {
     pub alternatives: usize,
     pub blocks: usize,
@@ -44,7 +44,7 @@ impl Query {
         let mut triples = 0;
         let mut nodes = 0;
         let alternatives = self.alternatives.as_slice();
-        // Kept: what the alternatives left hold is what the sums lack.
+        // Kept as a loop: one pass fills three sums, each within the limits of a query.
         for alternative in alternatives {
             let inner = totals(alternative.blocks.as_slice());
             let required = alternative.required.len();
@@ -71,7 +71,7 @@ fn totals(blocks: &[Block]) -> (usize, usize)
 {
     let mut triples = 0;
     let mut nodes = 0;
-    // Kept: what the blocks left hold is what the sums lack.
+    // Kept as a loop: one pass fills both sums, each within the limits of a query.
     for block in blocks {
         triples += block.triples.len();
         nodes += block.filter.len();

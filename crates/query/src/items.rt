@@ -1,5 +1,4 @@
 //! Reading the triples and nodes of a query.
-ghost use Rattle.std.specs.Prelude.{◌≡◌};
 ghost use Rattle.query.specs.Scanning.{ahead, Reads};
 ghost use Rattle.query.specs.Grammar as grammar;
 
@@ -12,8 +11,7 @@ use refusal::rejection::Rejection;
 impl<'a> Cursor<'a> {
     /// A triple pattern.
     pub(crate) fn triple(&mut self) -> Result<TriplePattern, Rejection>
-        ensures answer { Reads (ahead grammar.triple self.old) result self.new }
-        ensures same { self.new.bytes ≡ self.old.bytes }
+        ensures { Reads (ahead grammar.triple self.old) result self.new }
     {
         let subject = self.place()?;
         let property = self.place()?;
@@ -27,8 +25,7 @@ impl<'a> Cursor<'a> {
 
     /// What follows the kind of node number `number`.
     fn operands(&mut self, number: u32, kind: Kind) -> Result<Node, Rejection>
-        ensures answer { Reads (ahead (grammar.operands number kind) self.old) result self.new }
-        ensures same { self.new.bytes ≡ self.old.bytes }
+        ensures { Reads (ahead (grammar.operands number kind) self.old) result self.new }
     {
         match kind {
             Kind::Equal => Ok(Node::Equal(self.place()?, self.place()?)),
@@ -42,8 +39,7 @@ impl<'a> Cursor<'a> {
 
     /// Node number `number` of a filter.
     pub(crate) fn node(&mut self, number: u32) -> Result<Node, Rejection>
-        ensures answer { Reads (ahead (grammar.node number) self.old) result self.new }
-        ensures same { self.new.bytes ≡ self.old.bytes }
+        ensures { Reads (ahead (grammar.node number) self.old) result self.new }
     {
         let kind = self.kind()?;
         self.operands(number, kind)

@@ -13,33 +13,28 @@ pub(crate) enum Kind {
     Or = 6,
 }
 
-/// The kinds, by their numbers.
-const KINDS: [Kind; 6] = [
-    Kind::Equal,
-    Kind::Less,
-    Kind::Bound,
-    Kind::Not,
-    Kind::And,
-    Kind::Or,
-];
+impl From<Kind> for u32 {
+    ghost from_gives = { λ k n. n ≡ number_of k };
+
+    fn from(kind: Kind) -> u32 {
+        kind as u32
+    }
+}
 
 impl Kind {
-    /// The number that stands for the kind.
-    pub(crate) fn number(self) -> u32
-        ensures { result ≡ number_of self }
-    {
-        self as u32
-    }
-
+    // Kept as an option, as `char::from_u32` is: a number has no kind for one reason only.
     /// The kind that has the number.
     pub(crate) fn from_number(number: u32) -> Option<Kind>
         ensures { result ≡ kind_from number }
     {
-        for kind in KINDS {
-            if kind.number() == number {
-                return Some(kind);
-            }
+        match number {
+            1 => Some(Kind::Equal),
+            2 => Some(Kind::Less),
+            3 => Some(Kind::Bound),
+            4 => Some(Kind::Not),
+            5 => Some(Kind::And),
+            6 => Some(Kind::Or),
+            _ => None,
         }
-        None
     }
 }

@@ -22,7 +22,7 @@ pub mod read;
 mod roles;
 mod scan;
 mod sharing;
-mod step;
+mod tally;
 pub mod text;
 pub mod theorems;
 mod variables;

@@ -17,6 +17,7 @@ pub enum Place {
 }
 
 impl Place {
+    // Kept as a method: `From` may ask nothing of the place, and only a lawful one has a code that fits.
     /// The code that stands for the place: odd for a variable, even for a term.
     pub(crate) fn code(self) -> u32
         requires { lawful_place self ≡ true }
@@ -28,6 +29,7 @@ impl Place {
         }
     }
 
+    // Kept as an option, as `char::from_u32` is: a code has no place for one reason only.
     /// The lawful place that has the code.
     pub(crate) fn from_code(code: u32) -> Option<Place>
         ensures { result ≡ place_from code }

@@ -1,11 +1,20 @@
-//! Writing the parts of a query at a place of a buffer.
-ghost use Rattle.std.specs.Prelude.{◌≡◌, ℕ, ◌+◌, ◌≤◌, true, List, ◌++◌, length, All};
+//! Writing the parts of a query into a buffer.
+ghost use Rattle.std.specs.Prelude.{◌≡◌, ℕ, ◌≤◌, true, List, ◌++◌, length, All};
 ghost use Rattle.varint.specs.Encode.{encode, largest};
+ghost use Rattle.query.specs.Codes.{number_of};
 ghost use Rattle.query.specs.Limits.{lawful_place};
 ghost use Rattle.query.specs.Format.{counted, place_bytes};
-ghost use Rattle.query.specs.Writes.{Put};
+ghost use Rattle.query.specs.Writes.{Fits, Puts};
 
+use crate::kind::Kind;
 use crate::place::Place;
+
+/// A buffer that is written, and the place that comes next.
+#[derive(Drop)]
+pub(crate) struct Writer<'a> {
+    pub(crate) out: &'a mut [u8],
+    pub(crate) at: usize,
+}
 
 /// A part of a query that can be written.
 pub(crate) trait Coded {
@@ -15,63 +24,68 @@ pub(crate) trait Coded {
     /// The part is one that a lawful query has.
     ghost sound: { Self → Type 0 };
 
-    /// Writes the part at the place `at`, and answers the place behind it.
-    fn put(&self, out: &mut [u8], at: usize) -> usize
+    /// Writes the part where the writer is.
+    fn put(&self, writer: &mut Writer<'_>)
         requires sound { sound self.now }
-        requires room { at + length (code self.now) ≤ length out.old }
-        ensures { Put (code self.now) at out.old result out.new };
+        requires room { Fits (code self.now) writer.old }
+        ensures { Puts (code self.now) writer.old writer.new };
 }
 
-/// Writes a number at the place `at`, and answers the place behind it.
-pub(crate) fn put_number(n: u32, out: &mut [u8], at: usize) -> usize
-    requires room { at + length (encode n) ≤ length out.old }
-    ensures { Put (encode n) at out.old result out.new }
-{
-    match varint::write::write(n, out, at) {
-        Ok(length) => at + length,
-        Err(_) => unreachable(),
+impl Coded for u32 {
+    ghost code = { encode };
+
+    ghost sound = { λ _. Unit {0} };
+
+    fn put(&self, writer: &mut Writer<'_>) {
+        match varint::write::write(*self, writer.out, writer.at) {
+            Ok(length) => writer.at += length,
+            Err(_) => unreachable(),
+        }
     }
 }
 
-/// Writes a place by its code, and answers the place of the buffer behind it.
-pub(crate) fn put_place(place: Place, out: &mut [u8], at: usize) -> usize
-    requires sound { lawful_place place ≡ true }
-    requires room { at + length (place_bytes place) ≤ length out.old }
-    ensures { Put (place_bytes place) at out.old result out.new }
-{
-    put_number(place.code(), out, at)
-}
+impl Coded for Place {
+    ghost code = { place_bytes };
 
-/// Writes two numbers, and answers the place behind them.
-pub(crate) fn put_numbers(a: u32, b: u32, out: &mut [u8], at: usize) -> usize
-    requires room { at + length (encode a ++ encode b) ≤ length out.old }
-    ensures { Put (encode a ++ encode b) at out.old result out.new }
-{
-    let place = put_number(a, out, at);
-    put_number(b, out, place)
-}
+    ghost sound = { λ p. lawful_place p ≡ true };
 
-/// Writes two places by their codes, and answers the place of the buffer behind them.
-pub(crate) fn put_places(a: Place, b: Place, out: &mut [u8], at: usize) -> usize
-    requires sound { (lawful_place a ≡ true) × (lawful_place b ≡ true) }
-    requires room { at + length (place_bytes a ++ place_bytes b) ≤ length out.old }
-    ensures { Put (place_bytes a ++ place_bytes b) at out.old result out.new }
-{
-    let place = put_place(a, out, at);
-    put_place(b, out, place)
-}
-
-/// Writes how many items there are and then each, and answers the place behind the last.
-pub(crate) fn put_list<T: Coded>(items: &[T], out: &mut [u8], at: usize) -> usize
-    requires few { length items.now ≤ largest }
-    requires sound { All T.Coded.sound items.now }
-    requires room { at + length (counted T.Coded.code items.now) ≤ length out.old }
-    ensures { Put (counted T.Coded.code items.now) at out.old result out.new }
-{
-    let mut place = put_number(items.len() as u32, out, at);
-    // Kept: writing the items left behind this place completes the list.
-    for item in items {
-        place = item.put(out, place);
+    fn put(&self, writer: &mut Writer<'_>) {
+        self.code().put(writer);
     }
-    place
+}
+
+impl Coded for Kind {
+    ghost code = { λ k. encode (number_of k) };
+
+    ghost sound = { λ _. Unit {0} };
+
+    fn put(&self, writer: &mut Writer<'_>) {
+        u32::from(*self).put(writer);
+    }
+}
+
+impl<A: Coded, B: Coded> Coded for (A, B) {
+    ghost code = { λ p. A.code p.0 ++ B.code p.1 };
+
+    ghost sound = { λ p. A.sound p.0 × B.sound p.1 };
+
+    fn put(&self, writer: &mut Writer<'_>) {
+        self.0.put(writer);
+        self.1.put(writer);
+    }
+}
+
+/// How many items there are, and then each.
+impl<T: Coded> Coded for &[T] {
+    ghost code = { λ s. counted T.code s.now };
+
+    ghost sound = { λ s. (length s.now ≤ largest) × All T.sound s.now };
+
+    fn put(&self, writer: &mut Writer<'_>) {
+        (self.len() as u32).put(writer);
+        // Kept as a loop: a proof knows nothing of what a closure under `for_each` did to the writer.
+        for item in *self {
+            item.put(writer);
+        }
+    }
 }

@@ -27,8 +27,5 @@ pub fn read(heap: Global, bytes: &[u8]) -> Result<Query, ReadError>
     check(bytes)?;
     let mut builder = Builder::new(Some(Kept::new(heap)));
     scan(bytes, &mut builder)?;
-    match builder.finish(bytes.len()) {
-        Some(query) => Ok(query),
-        None => Err(ReadError::Memory),
-    }
+    builder.finish(bytes.len()).ok_or(ReadError::Memory)
 }

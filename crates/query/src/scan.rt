@@ -1,24 +1,34 @@
 //! Reading the parts of a query into a builder.
-ghost use Rattle.std.specs.Prelude.{◌≡◌, ◌<◌, []};
+ghost use Rattle.std.specs.Prelude.{◌≡◌, ◌+◌, [], IfOk};
+ghost use Rattle.query.specs.Readers.{count};
 ghost use Rattle.query.specs.Scanning.{TookTriples, TookFilter, TookBlock, TookBlocks, TookAlternative};
-ghost use Rattle.query.specs.Scanning.{TookAlternatives, Holds, Scanned};
+ghost use Rattle.query.specs.Scanning.{TookAlternatives, Holds, Scanned, ahead, Reads};
 ghost use Rattle.query.specs.Drafts.{finished};
-ghost use Rattle.query.specs.Grammar.{unused};
-ghost use Rattle.query.specs.Limits.{most_blocks};
+ghost use Rattle.query.specs.Grammar.{room, unused};
 
 use crate::builder::{Builder, MOST_ALTERNATIVES, MOST_BLOCKS};
 use crate::cursor::Cursor;
+use crate::tally::Tally;
 use refusal::refusal::Refusal;
 use refusal::rejection::Rejection;
 
 impl<'a> Cursor<'a> {
+    /// How many a part has, at least `least` and no more than there is room for; the tally counts them.
+    fn tallied(&mut self, tally: &mut Tally, least: u32) -> Result<u32, Rejection>
+        ensures answer { Reads (ahead (count least (room tally.old.total)) self.old) result self.new }
+        ensures counted { IfOk result (λ n. tally.new.total ≡ tally.old.total + n) }
+    {
+        let count = self.count(least, tally.room())?;
+        tally.add(count);
+        Ok(count)
+    }
+
     /// At least `least` triples of a part.
     fn triples(&mut self, builder: &mut Builder, least: u32) -> Result<(), Rejection>
-        ensures answer { TookTriples least builder.old self.old result builder.new self.new }
-        ensures same { self.new.bytes ≡ self.old.bytes }
+        ensures { TookTriples least builder.old self.old result builder.new self.new }
     {
-        let count = self.count(least, builder.triple_room())?;
-        // Kept: the triples so far have come in, and the rest of them gives the answer.
+        let count = self.tallied(&mut builder.triples, least)?;
+        // Kept as a loop: a clause cannot speak of any reader, as one function for the lists would have to.
         for _number in 0..count {
             let triple = self.triple()?;
             builder.triple(triple);
@@ -28,11 +38,10 @@ impl<'a> Cursor<'a> {
 
     /// The nodes of a filter.
     fn filter(&mut self, builder: &mut Builder) -> Result<(), Rejection>
-        ensures answer { TookFilter builder.old self.old result builder.new self.new }
-        ensures same { self.new.bytes ≡ self.old.bytes }
+        ensures { TookFilter builder.old self.old result builder.new self.new }
     {
-        let count = self.count(0, builder.node_room())?;
-        // Kept: the nodes so far have come in, and the rest of them gives the answer.
+        let count = self.tallied(&mut builder.nodes, 0)?;
+        // Kept as a loop: a clause cannot speak of any reader, as one function for the lists would have to.
         for number in 0..count {
             let node = self.node(number)?;
             builder.node(node);
@@ -40,35 +49,31 @@ impl<'a> Cursor<'a> {
         Ok(())
     }
 
-    /// Block number `number` of an alternative.
-    fn block(&mut self, builder: &mut Builder, number: usize) -> Result<(), Rejection>
-        requires { number < most_blocks }
-        ensures answer { TookBlock number builder.old self.old result builder.new self.new }
-        ensures same { self.new.bytes ≡ self.old.bytes }
+    /// A block of an alternative.
+    fn block(&mut self, builder: &mut Builder) -> Result<(), Rejection>
+        ensures { TookBlock builder.old self.old result builder.new self.new }
     {
         self.triples(builder, 1)?;
         self.filter(builder)?;
-        builder.end_block(number);
+        builder.end_block();
         Ok(())
     }
 
     /// The blocks of an alternative.
     fn blocks(&mut self, builder: &mut Builder) -> Result<(), Rejection>
-        ensures answer { TookBlocks builder.old self.old result builder.new self.new }
-        ensures same { self.new.bytes ≡ self.old.bytes }
+        ensures { TookBlocks builder.old self.old result builder.new self.new }
     {
-        let count = self.count(0, MOST_BLOCKS as u32)?;
-        // Kept: the blocks so far have come in, and the rest of them gives the answer.
-        for number in 0..count {
-            self.block(builder, number as usize)?;
+        let count = self.count(0, MOST_BLOCKS)?;
+        // Kept as a loop: a clause cannot speak of any reader, as one function for the lists would have to.
+        for _number in 0..count {
+            self.block(builder)?;
         }
         Ok(())
     }
 
     /// An alternative.
     fn alternative(&mut self, builder: &mut Builder) -> Result<(), Rejection>
-        ensures answer { TookAlternative builder.old self.old result builder.new self.new }
-        ensures same { self.new.bytes ≡ self.old.bytes }
+        ensures { TookAlternative builder.old self.old result builder.new self.new }
     {
         self.triples(builder, 0)?;
         builder.end_required();
@@ -80,11 +85,10 @@ impl<'a> Cursor<'a> {
 
     /// The alternatives of a query.
     fn alternatives(&mut self, builder: &mut Builder) -> Result<(), Rejection>
-        ensures answer { TookAlternatives builder.old self.old result builder.new self.new }
-        ensures same { self.new.bytes ≡ self.old.bytes }
+        ensures { TookAlternatives builder.old self.old result builder.new self.new }
     {
         let count = self.count(1, MOST_ALTERNATIVES)?;
-        // Kept: the alternatives so far have come in, and the rest of them gives the answer.
+        // Kept as a loop: a clause cannot speak of any reader, as one function for the lists would have to.
         for _number in 0..count {
             self.alternative(builder)?;
         }
@@ -96,20 +100,13 @@ impl<'a> Cursor<'a> {
 pub(crate) fn scan(bytes: &[u8], builder: &mut Builder) -> Result<(), Rejection>
     ensures { Holds builder.old (finished [] [] []) unused → Scanned bytes.now result builder.new }
 {
-    let mut cursor = Cursor { bytes, at: 0 };
+    let mut cursor = Cursor { rest: bytes, at: 0 };
     cursor.alternatives(builder)?;
-    let place = cursor.at;
-    if place < bytes.len() {
-        return Err(Rejection {
-            refusal: Refusal::BytesLeft,
-            place,
-        });
+    if !cursor.rest.is_empty() {
+        return Err(Refusal::BytesLeft.at(cursor.at));
     }
     if builder.shared {
-        return Err(Rejection {
-            refusal: Refusal::SharedByBlocks,
-            place,
-        });
+        return Err(Refusal::SharedByBlocks.at(cursor.at));
     }
     Ok(())
 }

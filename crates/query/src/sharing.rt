@@ -1,34 +1,35 @@
-//! Variables that blocks share without the required triples.
-ghost use Rattle.std.specs.Prelude.{◌≡◌, ◌<◌, MatchBool};
+//! Sets of variables against each other.
+ghost use Rattle.std.specs.Prelude.{◌≡◌, ℕ, ◌<◌, true, false, ◌&&◌, ◌||◌, MatchBool};
 ghost use Rattle.query.specs.Limits.{variables};
-ghost use Rattle.query.specs.Variables.{clash, Clash};
+ghost use Rattle.query.specs.Variables.{member, kept_in};
 
 use crate::variables::{VARIABLES, VariableSet};
+use std::array;
 
-/// Whether variable `v` is in both sets and not in the required one.
-fn clashes(v: usize, required: &VariableSet, first: &VariableSet, second: &VariableSet) -> bool
-    requires { v < variables }
-    ensures { result ≡ clash v required.now first.now second.now }
-{
-    first.has(v) && second.has(v) && !required.has(v)
-}
-
-/// Whether two of the blocks share a variable that the required triples lack.
-pub(crate) fn shares(required: &VariableSet, blocks: &[VariableSet]) -> bool
-    ensures { MatchBool result (Clash required.now blocks.now) (Clash required.now blocks.now → ⊥) }
-{
-    let mut found = false;
-    // Kept while nothing is found: no pair of blocks passed, and no variable passed of the pair in hand,
-    // clashes.
-    'pairs: for first in 0..blocks.len() {
-        for second in first + 1..blocks.len() {
-            for v in 0..VARIABLES {
-                if clashes(v, required, &blocks[first], &blocks[second]) {
-                    found = true;
-                    break 'pairs;
-                }
-            }
+impl VariableSet {
+    /// The variables that are in one of the sets.
+    pub(crate) fn union(&self, other: &VariableSet) -> VariableSet
+        ensures { (v : ℕ) → v < variables → member v result ≡ (member v self.now || member v other.now) }
+    {
+        VariableSet {
+            members: array::from_fn(|v| self.members[v] || other.members[v]),
         }
     }
-    found
+
+    /// The variables that are in both sets.
+    pub(crate) fn intersection(&self, other: &VariableSet) -> VariableSet
+        ensures { (v : ℕ) → v < variables → member v result ≡ (member v self.now && member v other.now) }
+    {
+        VariableSet {
+            members: array::from_fn(|v| self.members[v] && other.members[v]),
+        }
+    }
+
+    /// Whether every member is a member of the other set too.
+    pub(crate) fn is_subset(&self, other: &VariableSet) -> bool
+        ensures { MatchBool result ((v : ℕ) → v < variables → kept_in self.now other.now v ≡ true)
+            ((v : ℕ) × ((v < variables) × (kept_in self.now other.now v ≡ false))) }
+    {
+        (0..VARIABLES).all(|v| !self.members[v] || other.members[v])
+    }
 }

@@ -1,17 +1,17 @@
 //! Writing a query.
-ghost use Rattle.std.specs.Prelude.{◌≡◌, ◌+◌, ◌≤◌, true, length};
+ghost use Rattle.std.specs.Prelude.{◌≡◌, true};
 ghost use Rattle.query.specs.Format.{triple_bytes, node_bytes, operand_bytes, part_bytes, group_bytes};
 ghost use Rattle.query.specs.Format.{bytes_of};
 ghost use Rattle.query.specs.Lawful.{lawful_triple, lawful_part, lawful_group};
 ghost use Rattle.query.specs.Parts.{part_of, group_of};
 ghost use Rattle.query.specs.Shape.{shape};
-ghost use Rattle.query.specs.Writes.{Put, Written, places_lawful};
+ghost use Rattle.query.specs.Writes.{Fits, Puts, Written, places_lawful};
 
 use crate::alternative::Alternative;
 use crate::block::Block;
 use crate::node::Node;
 use crate::pattern::TriplePattern;
-use crate::put::{Coded, put_list, put_number, put_numbers, put_place, put_places};
+use crate::put::{Coded, Writer};
 use crate::query::Query;
 use refusal::refusal::Refusal;
 use refusal::rejection::Rejection;
@@ -21,25 +21,21 @@ impl Coded for TriplePattern {
 
     ghost sound = { λ t. lawful_triple t ≡ true };
 
-    fn put(&self, out: &mut [u8], at: usize) -> usize {
-        let place = put_place(self.subject, out, at);
-        put_places(self.property, self.object, out, place)
+    fn put(&self, writer: &mut Writer<'_>) {
+        (self.subject, (self.property, self.object)).put(writer);
     }
 }
 
-/// Writes what follows the kind of a node, and answers the place behind it.
-fn put_operands(node: &Node, out: &mut [u8], at: usize) -> usize
+/// Writes what follows the kind of a node.
+fn put_operands(node: &Node, writer: &mut Writer<'_>)
     requires sound { places_lawful node.now ≡ true }
-    requires room { at + length (operand_bytes node.now) ≤ length out.old }
-    ensures { Put (operand_bytes node.now) at out.old result out.new }
+    requires room { Fits (operand_bytes node.now) writer.old }
+    ensures { Puts (operand_bytes node.now) writer.old writer.new }
 {
     match node {
-        Node::Equal(a, b) => put_places(*a, *b, out, at),
-        Node::Less(a, b) => put_places(*a, *b, out, at),
-        Node::Bound(v) => put_number(*v, out, at),
-        Node::Not(a) => put_number(*a, out, at),
-        Node::And(a, b) => put_numbers(*a, *b, out, at),
-        Node::Or(a, b) => put_numbers(*a, *b, out, at),
+        Node::Equal(a, b) | Node::Less(a, b) => (*a, *b).put(writer),
+        Node::Bound(n) | Node::Not(n) => n.put(writer),
+        Node::And(a, b) | Node::Or(a, b) => (*a, *b).put(writer),
     }
 }
 
@@ -48,9 +44,9 @@ impl Coded for Node {
 
     ghost sound = { λ n. places_lawful n ≡ true };
 
-    fn put(&self, out: &mut [u8], at: usize) -> usize {
-        let place = put_number(self.kind().number(), out, at);
-        put_operands(self, out, place)
+    fn put(&self, writer: &mut Writer<'_>) {
+        self.kind().put(writer);
+        put_operands(self, writer);
     }
 }
 
@@ -59,9 +55,8 @@ impl Coded for Block {
 
     ghost sound = { λ b. lawful_part (part_of b) ≡ true };
 
-    fn put(&self, out: &mut [u8], at: usize) -> usize {
-        let place = put_list(self.triples.as_slice(), out, at);
-        put_list(self.filter.as_slice(), out, place)
+    fn put(&self, writer: &mut Writer<'_>) {
+        (self.triples.as_slice(), self.filter.as_slice()).put(writer);
     }
 }
 
@@ -70,10 +65,9 @@ impl Coded for Alternative {
 
     ghost sound = { λ a. lawful_group (group_of a) ≡ true };
 
-    fn put(&self, out: &mut [u8], at: usize) -> usize {
-        let blocks = put_list(self.required.as_slice(), out, at);
-        let filter = put_list(self.blocks.as_slice(), out, blocks);
-        put_list(self.filter.as_slice(), out, filter)
+    fn put(&self, writer: &mut Writer<'_>) {
+        let rest = (self.blocks.as_slice(), self.filter.as_slice());
+        (self.required.as_slice(), rest).put(writer);
     }
 }
 
@@ -86,6 +80,8 @@ impl Query {
         if out.len() < self.size {
             return Err(Rejection::unplaced(Refusal::BufferShort));
         }
-        Ok(put_list(self.alternatives.as_slice(), out, 0))
+        let mut writer = Writer { out, at: 0 };
+        self.alternatives.as_slice().put(&mut writer);
+        Ok(writer.at)
     }
 }

@@ -1,8 +1,9 @@
-use Rattle.std.proofs.Common.{◌≡◌, [], length, Some, Ok, sym, ap, ◌∙◌, subst}
+use Rattle.std.proofs.Common.{◌≡◌, [], length, Some, sym, ap, ◌∙◌, subst}
 use Rattle.query.specs.declared.kept.Kept.{Kept}
 use Rattle.query.specs.Drafts.{Keeps, draft_of, finished}
 use Rattle.query.specs.Grammar.{verdict, accepted}
-use Rattle.query.proofs.Outcomes.{recovered_answered}
+use Rattle.query.specs.Reads.{Answered}
+use Rattle.query.proofs.Outcomes.{recovered_answered, answered_finished}
 use Rattle.query.proofs.Verdicts.{accepted_is_written}
 use Rattle.query.proofs.read.read.Goals as goal
 use Rattle.query.proofs.read.read.Goals.{In_ok-scan}
@@ -22,8 +23,10 @@ finish-requires c k is =
     (kept_is_read (goal.at.finish-requires c).In_ok-scan k is) in
     (law.0, ap length law.1)
 
-pub returns-in-Some : goal.returns-in-Some
-returns-in-Some c =
-    let (k, (is, same)) = c.in-Some.ensures in
-    let h = kept_is_read (goal.at.returns-in-Some c).In_ok-scan k is ∙ ap accepted (sym same) in
-    record { answer = h; written = recovered_answered c.args.bytes.now (Ok c.in-Some.query) h }
+pub returns : goal.returns
+returns c =
+    let bytes = c.args.bytes.now in
+    let h = subst (Answered bytes) (sym c.ok_or.ensures.value)
+    (answered_finished bytes c.scan.new.builder c.finish.result c.finish.ensures
+    (kept_is_read (goal.at.returns c).In_ok-scan) c.in_ok-check.ensures.answer) in
+    record { answer = h; written = recovered_answered bytes c.ok_or.result h }

@@ -1,7 +1,9 @@
-use Rattle.std.proofs.Common.{◌≡◌, ◌-◌, ◌≤◌, ◌||◌, length, sym, refl, ap, ◌∙◌, arith, rules}
+use Rattle.std.proofs.Common.{◌≡◌, not, ◌||◌, sym, refl, ap, ◌∙◌, rules}
+use Rattle.query.specs.Drafts.{alternative_ended}
+use Rattle.std.specs.List.{list_any}
+use Rattle.query.specs.Lawful.{shares}
 use Rattle.query.specs.Parts.{Group}
-use Rattle.query.specs.Lawful.{some, shares}
-use Rattle.query.proofs.Building.{shares_front}
+use Rattle.query.proofs.Building.{shares_found}
 use Rattle.query.proofs.Lawful.{some_push}
 use Rattle.query.proofs.builder.Builder.end_alternative.Goals as goal
 
@@ -9,22 +11,19 @@ pub returns : goal.returns
 returns c = record {
   tracks = λ d h.
       let b = c.args.self.now in
-      let found = c.shares-found.result in
+      let apart = c.is_subset-apart.result in
       let g : Group = record { required = d.required; blocks = d.blocks; filter = d.nodes } in
-      let either : c.if-self.self ≡ (b.shared || found) = search rules in
-      let room : b.count - 0 ≤ length b.blocks = omega (arith, b.inside, b.full) in
-      let is : found ≡ shares g =
-      shares_front b.required b.blocks (b.count - 0) g found h.required (omega (arith, h.counted))
-      room h.blocks
-      c.shares-found.ensures in
+      let either : c.if-self.self ≡ (b.shared || not apart) = search rules in
       record {
         part = h.part;
         required = c.empty-self.ensures;
-        counted = refl;
-        blocks = λ k s p l. absurd (omega arith);
-        shared = either ∙ ap (λ x. x || found) h.shared ∙ ap (λ x. some shares d.done || x) is
+        once = c.empty-self-2.ensures;
+        twice = c.empty-self-3.ensures;
+        shared = either ∙ ap (λ x. x || not apart) h.shared
+            ∙ ap (λ x. list_any shares d.done || x)
+            (shares_found b.required b.in_two_blocks g h.required h.twice apart c.is_subset-apart.ensures)
             ∙ sym (some_push shares d.done g);
-        kept = c.keep.ensures d h.kept;
+        kept = c.keep.ensures alternative_ended (λ k k' r e. search rules) d h.kept;
       };
   used = refl;
 }

@@ -1,5 +1,5 @@
 -- The blocks so far have come in, and the rest of them gives the answer.
-use Rattle.std.proofs.Common.{◌≡◌, List, []}
+use Rattle.std.proofs.Common.{List, []}
 use Rattle.query.specs.declared.pattern.TriplePattern.{TriplePattern}
 use Rattle.query.specs.Building.{Tracks, used_of}
 use Rattle.query.specs.Scanning.{Holds}
@@ -10,10 +10,8 @@ use Rattle.query.proofs.Scans.{Sofar}
 use Rattle.query.proofs.cursor.Cursor.blocks.Given as goal
 
 abbrev pub invariant-loop-number : goal.invariant-loop-number
-invariant-loop-number l =
-    (l.self.bytes ≡ l.initial.self.bytes)
-    × ((done : List Group) (required : List TriplePattern)
+invariant-loop-number l = (done : List Group) (required : List TriplePattern)
     → Tracks l.initial.builder (finished done required [])
-    → Sofar block with_part (with_parts (used_of l.initial.builder)) l.count l.number
+    → Sofar block with_part (with_parts (used_of l.initial.builder)) l.count l._number
     l.initial.self l.self
-    (λ bs. Holds l.builder (finished done required bs) (with_parts (used_of l.initial.builder) bs)))
+    (λ bs. Holds l.builder (finished done required bs) (with_parts (used_of l.initial.builder) bs))

@@ -1,25 +1,34 @@
-use Rattle.std.proofs.Common.{◌+◌, ◌≤◌, length, drop, refl, arith}
-use Rattle.varint.specs.Decode.{decode}
-use Rattle.query.proofs.Numbers.{decoded_answer, number_within, number_took}
+use Rattle.std.proofs.Common.{◌≡◌, ◌+◌, ◌≤◌, length, sym, ap, ◌∙◌, arith}
+use Rattle.varint.specs.Decode.{decode, decoded}
+use Rattle.query.specs.Readers.{took, numbered}
+use Rattle.query.proofs.Numbers.{decoded_answer, number_within}
 use Rattle.query.proofs.cursor.Cursor.number.Goals as goal
+use Rattle.query.proofs.cursor.Cursor.number.Goals.{In-Ok}
+
+-- the bytes begin with the number
+begins : (c : In-Ok) → decode c.args.self.now.rest.now ≡ decoded c.in-Ok.number.value c.in-Ok.number.length
+begins c = decoded_answer (decode c.args.self.now.rest.now) c.in-Ok.number c.in-Ok.ensures
+
+-- and hold the whole of it
+within : (c : In-Ok) → c.in-Ok.number.length ≤ length c.args.self.now.rest.now
+within c = number_within c.args.self.now.rest.now c.in-Ok.number.value c.in-Ok.number.length (begins c)
+
+pub split_at-requires : goal.split_at-requires
+split_at-requires c = within (goal.at.split_at-requires c).In-Ok
 
 pub overflow_add-self : goal.overflow_add-self
 overflow_add-self c =
-    let bytes = c.args.self.now.bytes.now in
-    let at = c.args.self.now.at in
-    let n = c.in-Ok.number in
-    let ends : at + n.length ≤ length bytes =
-    number_within bytes at n.value n.length
-    (decoded_answer (decode (drop at bytes)) n c.in-Ok.ensures) in
-    omega arith
+    let cursor = c.args.self.now in
+    omega (arith, within (goal.at.overflow_add-self c).In-Ok, cursor.fits)
+
+pub invariant_of-self : goal.invariant_of-self
+invariant_of-self c =
+    let cursor = c.args.self.now in
+    record { fits = omega (arith, cursor.fits, c.split_at.ensures.back_len) }
 
 pub returns-in-Ok : goal.returns-in-Ok
 returns-in-Ok c =
-    let bytes = c.args.self.now.bytes.now in
-    let at = c.args.self.now.at in
+    let cursor = c.args.self.now in
     let n = c.in-Ok.number in
-    record {
-      answer = number_took bytes at n.value n.length
-          (decoded_answer (decode (drop at bytes)) n c.in-Ok.ensures);
-      same = refl;
-    }
+    ap (numbered cursor.at cursor.rest.now) (begins (goal.at.returns-in-Ok c).In-Ok)
+    ∙ ap (took n.value (cursor.at + n.length)) (sym c.split_at.ensures.back)

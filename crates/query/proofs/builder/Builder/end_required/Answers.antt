@@ -1,0 +1,16 @@
+use Rattle.std.proofs.Common.{refl, rules}
+use Rattle.query.specs.Drafts.{required_ended}
+use Rattle.query.proofs.builder.Builder.end_required.Goals as goal
+
+pub returns : goal.returns
+returns c = record {
+  tracks = λ d h. record {
+    part = c.empty-self.ensures;
+    required = h.part;
+    once = h.once;
+    twice = h.twice;
+    shared = h.shared;
+    kept = c.keep.ensures required_ended (λ k k' r e. search rules) d h.kept;
+  };
+  used = refl;
+}
