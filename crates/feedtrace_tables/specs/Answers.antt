@@ -1,5 +1,6 @@
 -- The line that an answer shows as, without the line's end. Assumes nothing.
-use Rattle.std.specs.Prelude.{ℕ, List, [], ◌++◌, Some, None, vec_items, codes, decimal, Option}
+use Rattle.std.specs.Prelude.{ℕ, List, [], ◌++◌, Some, None, Ok, Err, vec_items, codes, decimal, Option}
+use Rattle.std.specs.Prelude.{Result}
 use Rattle.hex_text.specs.Writing.{text_of}
 use Rattle.query.specs.declared.inspect.Counts as inspect
 use Rattle.refusal.specs.declared.rejection.Rejection.{Rejection}
@@ -8,6 +9,8 @@ use Rattle.feedtrace_tables.specs.declared.answer.Answer.{Answer}
 use Rattle.feedtrace_tables.specs.declared.answer.Answer.TheVariants.{Nothing, Counts, Refused, Bytes, Shown}
 use Rattle.feedtrace_tables.specs.declared.answer.Answer.TheVariants.{Task}
 use Rattle.feedtrace_tables.specs.declared.answer.Answer.TheVariants.{Error}
+use Rattle.feedtrace_tables.specs.declared.failure.Failure.{Failure}
+use Rattle.feedtrace_tables.specs.declared.failure.Failure.TheVariants as failure
 
 -- how much a query holds
 abbrev pub counts_line : inspect.Counts → List ℕ
@@ -35,3 +38,9 @@ line_of (Bytes v) = Some (bytes_line (vec_items v))
 line_of Shown = Some []
 line_of (Task o) = None
 line_of (Error e) = None
+
+-- the answer, or why the line is not carried out
+abbrev pub settled : Result Answer Failure → Answer
+settled (Ok a) = a
+settled (Err (failure.Refused r)) = Refused r
+settled (Err (failure.Expected e)) = Error e

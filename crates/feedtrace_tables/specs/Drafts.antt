@@ -1,7 +1,7 @@
 -- A table while its lines come in. Assumes nothing.
 --     drafted d text     the draft d with the element of the line text behind its list
 use Rattle.std.specs.Prelude.{◌≡◌, ℕ, ◌⊎◌, List, [], ◌∷◌, ◌++◌, Some, None, Ok, Err, vec_items, codes, Option}
-use Rattle.std.specs.Prelude.{Result, MatchOption}
+use Rattle.std.specs.Prelude.{Result, MatchResult}
 use Rattle.triples.specs.declared.entry.DirectoryEntry.{DirectoryEntry}
 use Rattle.triples.specs.declared.pair.Pair.{Pair}
 use Rattle.triples.specs.declared.property_store.PropertyTable.{PropertyTable}
@@ -46,12 +46,15 @@ drafted (rows top xs) text = added xs (rows top) (only_triple text)
 drafted (properties top ds ps) text = entry_drafted top ds ps text (behind (codes "property") text)
 drafted (records rs) text = added rs records (record_line text)
 
--- the line was taken; or it has another form, or memory is wanting, and the draft is as it was
+-- the line was not taken, since x is expected: it has another form, or memory is wanting
+abbrev pub Untaken : Draft → List ℕ → Expected → Type 0
+Untaken d text x =
+    ((x ≡ expected.TableLines) × (drafted d text ≡ None))
+    ⊎ ((x ≡ expected.Memory) × ((f : Draft) × (drafted d text ≡ Some f)))
+
+-- the line was taken; or it was not, and the draft is as it was
 abbrev pub Drafted : {U : Type 0} → Draft → List ℕ → Result U Expected → Draft → Type 0
-Drafted d text (Ok _) e = drafted d text ≡ Some e
-Drafted d text (Err x) e =
-    (e ≡ d) × (((x ≡ expected.TableLines) × (drafted d text ≡ None))
-    ⊎ ((x ≡ expected.Memory) × ((f : Draft) × (drafted d text ≡ Some f))))
+Drafted d text r e = MatchResult r (λ _. drafted d text ≡ Some e) (λ x. (e ≡ d) × Untaken d text x)
 
 -- the same of a property store's table
 abbrev pub EntryTaken : {U : Type 0} → List ℕ → PropertyTable → Result U Expected → PropertyTable → Type 0
@@ -59,21 +62,23 @@ EntryTaken text a r b =
     (top : ℕ) → Drafted (properties top (vec_items a.directory) (vec_items a.pairs)) text r
     (properties top (vec_items b.directory) (vec_items b.pairs))
 
--- what is to be loaded: the draft, and what was expected where a line was wrong
-pub record Pending : Type 0 where
-  pub draft : Draft
-  pub wrong : Option Expected
+-- what is to be loaded: the draft, or what was expected where a line was wrong
+abbrev pub Pending : Type 0
+Pending = Result Draft Expected
+
+-- the lists, if no line was wrong, as plain ones
+abbrev pub draft_or : Result Lists Expected → Pending
+draft_or (Ok lists) = Ok (draft_of lists)
+draft_or (Err x) = Err x
 
 -- what is to be loaded, of a table that is being read
 abbrev pub pending_of : Loading → Pending
-pending_of l = record { draft = draft_of l.lists; wrong = l.wrong }
+pending_of l = draft_or l.lists
 
--- the line was taken into the draft; or it was not, and is remembered by what was expected
+-- the line was taken into the draft; or it was not, and what was expected is remembered
 abbrev pub LineTried : Draft → List ℕ → Pending → Type 0
-LineTried d text q = MatchOption q.wrong (drafted d text ≡ Some q.draft)
-    (λ x. Drafted {U = Unit {0}} d text (Err x) q.draft)
+LineTried d text q = MatchResult q (λ e. drafted d text ≡ Some e) (Untaken d text)
 
 -- a line was read: after a wrong line no more is taken; else the line is taken, or it is the wrong one
 abbrev pub LineRead : Pending → List ℕ → Pending → Type 0
-LineRead p text q =
-    MatchOption p.wrong (LineTried p.draft text q) (λ _. q ≡ p)
+LineRead p text q = MatchResult p (λ d. LineTried d text q) (λ _. q ≡ p)

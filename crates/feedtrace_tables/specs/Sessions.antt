@@ -20,7 +20,9 @@ use Rattle.feedtrace_tables.specs.declared.command.Command.TheVariants as comman
 use Rattle.feedtrace_tables.specs.declared.expected.Expected.TheVariants as expected
 use Rattle.feedtrace_tables.specs.declared.session.Session.{Session}
 use Rattle.feedtrace_tables.specs.Does.{Does}
-use Rattle.feedtrace_tables.specs.Lines.{TableLine}
+use Rattle.feedtrace_tables.specs.Answers.{settled}
+use Rattle.feedtrace_tables.specs.Failures.{Carried}
+use Rattle.feedtrace_tables.specs.Lines.{Told, answered, TableLine}
 use Rattle.feedtrace_tables.specs.Requests.{asked, Meets}
 use Rattle.feedtrace_tables.specs.Words.{trimmed}
 
@@ -73,7 +75,7 @@ Steps s command.Nothing r t = (r ≡ Nothing) × (t ≡ s)
 Steps s (command.Query v) r t = Took (vec_items v) s r t
 Steps s (command.Write n) r t = Wrote n s r × (t ≡ s)
 Steps s command.Show r t = Showed s r × (t ≡ s)
-Steps s (command.Task c) r t = Does c s r t
+Steps s (command.Task c) r t = (x : Carried) × ((r ≡ settled (answered x)) × Does c s x t)
 Steps s (command.Malformed e) r t = (r ≡ Error e) × (t ≡ s)
 
 -- the answer to a line, and the session behind it: a line of the table that is being read, or else the
@@ -81,7 +83,7 @@ Steps s (command.Malformed e) r t = (r ≡ Error e) × (t ≡ s)
 abbrev pub Answered : List ℕ → Session → Answer → Session → Type 0
 Answered line s r t =
     MatchOption s.loading ((c : Command) × (Meets (asked line) c × Steps s c r t))
-    (λ _. TableLine (trimmed line) s r t)
+    (λ _. (x : Told) × ((r ≡ settled x) × TableLine (trimmed line) s x t))
 
 -- a buffer of n bytes was filled by the query: its bytes, or the refusal of a short buffer
 abbrev pub Filled : {E Z : Type 0} → queries.Query → ℕ → Result (Result (Vec ℕ Z) Rejection) E → Type 0

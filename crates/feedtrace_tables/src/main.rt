@@ -3,17 +3,18 @@
 
 mod answer;
 mod ask;
-mod book;
 mod carry;
 mod change;
 mod command;
+mod current;
+mod either;
 mod expected;
+mod failure;
 mod field;
 mod filter;
 mod form;
 mod grammar;
 mod lay;
-mod layered;
 mod line;
 mod listing;
 mod load;
@@ -24,7 +25,6 @@ mod read_line;
 mod reply;
 mod session;
 mod step;
-mod table;
 mod table_line;
 mod table_step;
 mod task;

@@ -1,6 +1,5 @@
 //! The state of the console between two lines.
-use crate::book::Book;
-use crate::layered::Layered;
+use crate::current::{Book, Layered};
 use crate::loading::Loading;
 use query::query::Query;
 

@@ -3,11 +3,13 @@ ghost use Rattle.std.specs.Prelude.{◌≡◌, [], map, None};
 ghost use Rattle.std.specs.Option.{unwrap_or};
 ghost use Rattle.query.specs.Parts.{group_of};
 ghost use Rattle.feedtrace_tables.specs.Sessions.{current, Took, Wrote, Showed, Steps, Answered, Filled};
+ghost use Rattle.feedtrace_tables.specs.Answers.{settled};
 
 use crate::answer::Answer;
-use crate::book::Book;
 use crate::command::Command;
+use crate::either::Either;
 use crate::expected::Expected;
+use crate::failure::Failure;
 use crate::line::trim;
 use crate::reply::Reply;
 use crate::session::Session;
@@ -26,7 +28,7 @@ impl Session {
         Session {
             query: None,
             store: None,
-            book: Book::Inline(Inline),
+            book: Either::Left(Inline),
             loading: None,
         }
     }
@@ -36,7 +38,7 @@ impl Session {
         ensures { Answered line.now self.old result self.new }
     {
         if self.loading.is_some() {
-            self.table_line(trim(line))
+            settled(self.table_line(trim(line)))
         } else {
             self.step(heap, Command::parse(heap, line))
         }
@@ -52,7 +54,7 @@ impl Session {
             Command::Write(length) => self.write(heap, length),
             Command::Show => self.show(),
             Command::Malformed(expected) => Answer::Error(expected),
-            Command::Task(task) => self.carry_out(heap, task),
+            Command::Task(task) => settled(self.carry_out(heap, task).map(Answer::Task)),
         }
     }
 
@@ -111,6 +113,17 @@ impl Session {
             None => Answer::Error(Expected::Query),
             Some(_) => Answer::Shown,
         }
+    }
+}
+
+/// The answer, or why the line is not carried out.
+fn settled(done: Result<Answer, Failure>) -> Answer
+    ensures { result ≡ settled done }
+{
+    match done {
+        Ok(answer) => answer,
+        Err(Failure::Refused(rejection)) => Answer::Refused(rejection),
+        Err(Failure::Expected(expected)) => Answer::Error(expected),
     }
 }
 
