@@ -5,6 +5,7 @@ pub mod Codes  -- the numbers of places and of node kinds
 pub mod Format  -- a query's bytes
 pub mod Lawful  -- which queries there are
 pub mod Shape  -- a query by its alternatives
+pub mod Texts  -- parts of a query as text
 pub mod Variables  -- sets of variables
 pub mod Readers  -- how bytes are read
 pub mod Grammar  -- what a reader makes of bytes

@@ -23,6 +23,7 @@ mod roles;
 mod scan;
 mod sharing;
 mod step;
+pub mod text;
 pub mod theorems;
 mod variables;
 pub mod write;

@@ -1,2 +1,3 @@
--- Read this.
+-- Read in this order.
 pub mod Numbers  -- the published number of each refusal
+pub mod Texts  -- a refusal as text

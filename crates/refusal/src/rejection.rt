@@ -1,9 +1,13 @@
 //! A refusal with the place that it names.
-ghost use Rattle.std.specs.Prelude.{◌≡◌};
+ghost use Rattle.std.specs.Prelude.{◌≡◌, Some};
+ghost use Rattle.refusal.specs.Texts.{rejection_text};
 
 use crate::refusal::Refusal;
+use std::fmt;
+use std::fmt::{Formatter, Write};
 
-/// A refusal and its place, counted from 0; the place is 0 where the refusal names none.
+/// A refusal and its place, counted from 0; the place is 0 where the refusal names none. It shows as the
+/// published number of the refusal, and the place.
 #[derive(Clone, Copy)]
 pub struct Rejection {
     pub refusal: Refusal,
@@ -16,6 +20,16 @@ impl Rejection {
         ensures { (result.refusal ≡ refusal) × (result.place ≡ 0) }
     {
         Rejection { refusal, place: 0 }
+    }
+}
+
+impl fmt::Display for Rejection {
+    ghost output = { λ r. Some (rejection_text r) };
+
+    fn fmt<W: Write>(&self, f: &mut Formatter<W>) -> fmt::Result {
+        let number = self.refusal.number();
+        let place = self.place;
+        write!(f, "{number} at {place}")
     }
 }
 

@@ -1,0 +1,3 @@
+-- Read in this order.
+mod Numerals  -- laws of numbers
+mod Requests  -- laws of requests

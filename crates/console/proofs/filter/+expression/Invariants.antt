@@ -1,0 +1,9 @@
+-- A node that is named is lower.
+use Rattle.std.proofs.Common.{◌+◌, ◌*◌, length}
+use Rattle.console.proofs.filter.+expression.Given as goal
+
+abbrev pub decreases-put_expression : goal.decreases-put_expression
+decreases-put_expression g l = 2 * length l.nodes.now
+
+abbrev pub decreases-put_operand : goal.decreases-put_operand
+decreases-put_operand g l = 2 * length l.below.now + 1

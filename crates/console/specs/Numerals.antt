@@ -1,0 +1,28 @@
+-- Numbers, as decimal digits. Assumes nothing.
+--     number_after n text      n with the digits of text behind its own
+--     number_from most text    the number that text says, if it says one up to most
+use Rattle.std.specs.Prelude.{ℕ, ◌+◌, ◌-◌, ◌*◌, cond, ◌&&◌, List, [], ◌∷◌, Some, None, Option, nat_le}
+use Rattle.std.specs.Prelude.{option_and_then}
+
+-- the greatest length that a command may give
+abbrev pub most_length : ℕ
+most_length = 1000000
+
+-- what the decimal digit c counts; none where c is no digit
+abbrev pub digit_value : ℕ → Option ℕ
+digit_value c = cond (nat_le 48 c && nat_le c 57) (Some (c - 48)) None
+
+-- n with the digits of text behind its own; none where something else stands in text
+abbrev pub number_after : ℕ → List ℕ → Option ℕ
+number_after n [] = Some n
+number_after n (c ∷ cs) = option_and_then (λ d. number_after (10 * n + d) cs) (digit_value c)
+
+-- n, unless it is greater than most
+abbrev pub limited : ℕ → Option ℕ → Option ℕ
+limited most None = None
+limited most (Some n) = cond (nat_le n most) (Some n) None
+
+-- the number that text says: decimal digits, at least one; none where it says none, or one greater than most
+abbrev pub number_from : ℕ → List ℕ → Option ℕ
+number_from most [] = None
+number_from most (c ∷ cs) = limited most (number_after 0 (c ∷ cs))

@@ -1,0 +1,121 @@
+//! Filters as text. A filter whose nodes are each named once, but for the last, is written as the
+//! expression of its last node; any other lists its nodes by number, so that no node is written twice.
+use query::node::Node;
+use std::fmt;
+use std::fmt::{Formatter, Write};
+
+/// A filter's nodes, which show as `FILTER` and an expression; no nodes show as nothing.
+#[derive(Clone, Copy)]
+pub(crate) struct FilterText<'a>(pub &'a [Node]);
+
+impl fmt::Display for FilterText<'_> {
+    fn fmt<W: Write>(&self, f: &mut Formatter<W>) -> fmt::Result {
+        match self.0 {
+            [] => Ok(()),
+            nodes if is_tree(nodes) => put_whole(nodes, f),
+            nodes => put_list(nodes, f),
+        }
+    }
+}
+
+/// Whether each node but the last is named exactly once.
+fn is_tree(nodes: &[Node]) -> bool {
+    (1..nodes.len()).all(|number| uses(nodes, number - 1) == 1)
+}
+
+/// How often the nodes name the node `number`.
+fn uses(nodes: &[Node], number: usize) -> usize {
+    nodes.iter().fold(0usize, |uses, node| {
+        uses.saturating_add(uses_in(*node, number))
+    })
+}
+
+/// How often the node names the node `number`.
+fn uses_in(node: Node, number: usize) -> usize {
+    match node {
+        Node::Not(a) => usize::from(a as usize == number),
+        Node::And(a, b) | Node::Or(a, b) => usize::from(a as usize == number)
+            + usize::from(b as usize == number),
+        _ => 0,
+    }
+}
+
+/// Writes the expression of the last node, in brackets of its own where it has none.
+fn put_whole<W: Write>(nodes: &[Node], f: &mut Formatter<W>) -> fmt::Result {
+    f.write_str("FILTER ")?;
+    match nodes {
+        [.., Node::Bound(_) | Node::Not(_)] => {
+            f.write_char('(')?;
+            put_expression(nodes, f)?;
+            f.write_char(')')
+        }
+        _ => put_expression(nodes, f),
+    }
+}
+
+/// Writes the expression of the last node, with the nodes that it names in their places.
+#[cycle(expression)]
+fn put_expression<W: Write>(nodes: &[Node], f: &mut Formatter<W>) -> fmt::Result {
+    let Some((node, below)) = nodes.split_last() else {
+        return Ok(());
+    };
+    match *node {
+        Node::Not(a) => {
+            f.write_char('!')?;
+            put_operand(below, a, f)
+        }
+        Node::And(a, b) => {
+            f.write_char('(')?;
+            put_operand(below, a, f)?;
+            f.write_str(" && ")?;
+            put_operand(below, b, f)?;
+            f.write_char(')')
+        }
+        Node::Or(a, b) => {
+            f.write_char('(')?;
+            put_operand(below, a, f)?;
+            f.write_str(" || ")?;
+            put_operand(below, b, f)?;
+            f.write_char(')')
+        }
+        node => write!(f, "{}", Named(node)),
+    }
+}
+
+/// Writes the expression of the node `number`, or its name where it is not among the nodes below.
+#[cycle(expression)]
+fn put_operand<W: Write>(below: &[Node], number: u32, f: &mut Formatter<W>) -> fmt::Result {
+    match below.get(..=number as usize) {
+        Some(nodes) => put_expression(nodes, f),
+        None => write!(f, "n{number}"),
+    }
+}
+
+/// Writes the name of the last node, and then what each name stands for.
+fn put_list<W: Write>(nodes: &[Node], f: &mut Formatter<W>) -> fmt::Result {
+    let last = nodes.len().saturating_sub(1);
+    write!(f, "FILTER (n{last}) WHERE ")?;
+    for (i, node) in nodes.iter().enumerate() {
+        let node = Named(*node);
+        f.write_str(if i == 0 { "" } else { ", " })?;
+        write!(f, "n{i}: {node}")?;
+    }
+    Ok(())
+}
+
+/// A node, which shows with the nodes that it names by their numbers.
+#[derive(Clone, Copy)]
+struct Named(Node);
+
+impl fmt::Display for Named {
+    fn fmt<W: Write>(&self, f: &mut Formatter<W>) -> fmt::Result {
+        match self.0 {
+            Node::Equal(a, b) => write!(f, "({a} = {b})"),
+            Node::Less(a, b) => write!(f, "({a} < {b})"),
+            Node::Bound(variable) => write!(f, "BOUND(?v{variable})"),
+            Node::Not(a) => write!(f, "!n{a}"),
+            Node::And(a, b) => write!(f, "(n{a} && n{b})"),
+            Node::Or(a, b) => write!(f, "(n{a} || n{b})"),
+        }
+    }
+}

@@ -1,0 +1,14 @@
+//! What the consoles share: the words and numbers of a line, the commands about queries, the session that
+//! carries them out, and its answers.
+#![tactic(auto)]
+
+pub mod answer;
+pub mod command;
+pub mod expected;
+pub mod failure;
+mod filter;
+pub mod line;
+mod listing;
+pub mod number;
+pub mod reply;
+pub mod session;
