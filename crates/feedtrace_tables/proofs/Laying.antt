@@ -7,6 +7,6 @@ use Rattle.feedtrace_tables.specs.Laying.{Changed}
 
 pub changed_some : (P : Layered → Carried → Layered → Type 0) (s : Session) (l m : Layered) (r : Carried)
     → s.store ≡ Some l → P l r m
-    → Changed P s r (record { query = s.query; store = Some m; book = s.book; loading = s.loading })
+    → Changed P s r (record { queries = s.queries; store = Some m; book = s.book; loading = s.loading })
 changed_some P s l m r is p =
-    (record { query = refl; book = refl; loading = refl }, rw is (m, (refl, p)))
+    (record { queries = refl; book = refl; loading = refl }, rw is (m, (refl, p)))

@@ -11,10 +11,10 @@ use Rattle.feedtrace_tables.specs.Tasks.{Asked}
 pub asked_some : (P : Meaning → Carried → Type 0) (s : Session) (l m : Layered) (r : Carried)
     → s.store ≡ Some l
     → layered_meaning m ≡ layered_meaning l → P (layered_meaning l) r
-    → Asked P s r (record { query = s.query; store = Some m; book = s.book; loading = s.loading })
+    → Asked P s r (record { queries = s.queries; store = Some m; book = s.book; loading = s.loading })
 asked_some P s l m r is same p = (
   record {
-    query = refl;
+    queries = refl;
     store = ap Some same ∙ sym (ap (option_map layered_meaning) is);
     book = refl;
     loading = refl;

@@ -22,7 +22,7 @@ pending s = option_map pending_of s.loading
 pub record Begun (d : Draft) (s : Session) (o : Outcome) (t : Session) : Type 0 where
   pub answer : o ≡ outcome.Begun
   pub loading : pending t ≡ Some (Ok d)
-  pub query : t.query ≡ s.query
+  pub queries : t.queries ≡ s.queries
   pub store : t.store ≡ s.store
   pub book : t.book ≡ s.book
 

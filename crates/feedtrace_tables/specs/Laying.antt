@@ -1,5 +1,5 @@
 -- What laying layers, withdrawing and restoring answer, and what they leave. Assumes nothing.
---     Beside s t     t has the query, the catalogue and the table of s
+--     Beside s t     t has the queries, the catalogue and the table of s
 use Rattle.std.specs.Prelude.{◌≡◌, ℕ, true, ◌&&◌, ◌⊎◌, [], length, Some, None, Ok, Err, MatchOption}
 use Rattle.refusal.specs.declared.refusal.Refusal.TheVariants.{PropertyOutside}
 use Rattle.refusal.specs.declared.rejection.Rejection.{Rejection}
@@ -18,9 +18,9 @@ use Rattle.feedtrace_tables.specs.Failures.{Carried, lacks, refused}
 use Rattle.feedtrace_tables.specs.Tables.{Table, table_meaning}
 use Rattle.feedtrace_tables.specs.Layerings.{Inverted, Layered, bare, inverse_meaning, inverted_meaning}
 
--- t has the query, the catalogue and the table of s
+-- t has the queries, the catalogue and the table of s
 pub record Beside (s t : Session) : Type 0 where
-  pub query : t.query ≡ s.query
+  pub queries : t.queries ≡ s.queries
   pub book : t.book ≡ s.book
   pub loading : t.loading ≡ s.loading
 

@@ -17,15 +17,15 @@ use Rattle.feedtrace_tables.specs.Drafts.{Draft, rows, properties, records}
 use Rattle.feedtrace_tables.specs.Failures.{Carried, refused}
 use Rattle.feedtrace_tables.specs.Layerings.{bare}
 
--- the query, the store and the table being read of t are those of s
+-- the queries, the store and the table being read of t are those of s
 pub record ButBook (s t : Session) : Type 0 where
-  pub query : t.query ≡ s.query
+  pub queries : t.queries ≡ s.queries
   pub store : t.store ≡ s.store
   pub loading : t.loading ≡ s.loading
 
--- the query, the catalogue and the table being read of t are those of s
+-- the queries, the catalogue and the table being read of t are those of s
 pub record ButStore (s t : Session) : Type 0 where
-  pub query : t.query ≡ s.query
+  pub queries : t.queries ≡ s.queries
   pub book : t.book ≡ s.book
   pub loading : t.loading ≡ s.loading
 

@@ -1,5 +1,5 @@
 -- What tasks answer, and what they leave. Assumes nothing.
---     Kept s t        t has the query and the table of s, and means what s means
+--     Kept s t        t has the queries and the table of s, and means what s means
 --     Asked P s r t   the store of s was asked, P holds of its meaning and the answer r, and t is as s
 use Rattle.std.specs.Prelude.{◌≡◌, ℕ, ◌⊎◌, ℤ, Ok, vec_items, Option, Vec, MatchOption}
 use Rattle.std.specs.Option.{option_map}
@@ -15,7 +15,7 @@ use Rattle.catalogue.specs.Entries.{told}
 use Rattle.catalogue.specs.declared.kind.Kind.{Kind}
 use Rattle.feedtrace_tables.specs.declared.expected.Expected.TheVariants as expected
 use Rattle.feedtrace_tables.specs.declared.outcome.Outcome.{Outcome}
-use Rattle.feedtrace_tables.specs.Failures.{Carried, lacks}
+use Rattle.feedtrace_tables.specs.Failures.{Carried, lacks, memory}
 use Rattle.feedtrace_tables.specs.declared.outcome.Outcome.TheVariants as outcome
 use Rattle.feedtrace_tables.specs.declared.session.Session.{Session}
 use Rattle.feedtrace_tables.specs.Books.{book_entries}
@@ -25,9 +25,9 @@ use Rattle.feedtrace_tables.specs.Layerings.{layered_meaning}
 abbrev pub meaning_of : Session → Option Meaning
 meaning_of s = option_map layered_meaning s.store
 
--- t has the query and the table of s, and its store and catalogue mean what those of s mean
+-- t has the queries and the table of s, and its store and catalogue mean what those of s mean
 pub record Kept (s t : Session) : Type 0 where
-  pub query : t.query ≡ s.query
+  pub queries : t.queries ≡ s.queries
   pub store : meaning_of t ≡ meaning_of s
   pub book : book_entries t.book ≡ book_entries s.book
   pub loading : t.loading ≡ s.loading
@@ -52,13 +52,13 @@ abbrev pub ScanAnswer : Selector → Meaning → Carried → Type 0
 ScanAnswer selector m r =
     ((v : Vec triples.Triple Global)
     × ((r ≡ Ok (outcome.Triples v)) × Scanned m.has selector (vec_items v)))
-    ⊎ (r ≡ lacks expected.Memory)
+    ⊎ (r ≡ lacks memory)
 
 -- exactly the terms that the term reaches, nearest first; or memory is wanting
 abbrev pub TraceAnswer : ℕ → Meaning → Carried → Type 0
 TraceAnswer term m r =
     ((v : Vec ℕ Global) × ((r ≡ Ok (outcome.Terms v)) × Traced m.has term (vec_items v)))
-    ⊎ (r ≡ lacks expected.Memory)
+    ⊎ (r ≡ lacks memory)
 
 -- the entry of the number in the catalogue of s
 abbrev pub Looked : ℕ → Session → Outcome → Session → Type 0

@@ -1,14 +1,18 @@
-//! Why a line is not carried out.
+//! Why a line has no answer.
 ghost use Rattle.std.specs.Prelude.{◌≡◌};
-ghost use Rattle.feedtrace_tables.specs.declared.expected.Expected.TheVariants as expected;
+ghost use Rattle.feedtrace_tables.specs.Failures.{failure_for, failure_line, memory};
 ghost use Rattle.feedtrace_tables.specs.declared.failure.Failure.TheVariants as failure;
 
 use crate::expected::Expected;
+use console::expected::Expected as Shared;
+use console::failure::Failure as QueryFailure;
 use refusal::declined::Declined;
 use refusal::rejection::Rejection;
-use std::alloc::{AllocError, AllocFailed};
+use std::alloc::AllocError;
+use std::fmt;
+use std::fmt::{Formatter, Write};
 
-/// Why a line is not carried out.
+/// Why a line has no answer. It shows as its line, without the line's end.
 #[derive(Clone, Copy)]
 pub enum Failure {
     /// The library refuses what the line asks.
@@ -18,7 +22,7 @@ pub enum Failure {
 }
 
 impl From<Rejection> for Failure {
-    ghost from_gives = { λ rejection r. r ≡ failure.Refused rejection };
+    ghost from_gives = { λ x y. y ≡ failure.Refused x };
 
     fn from(rejection: Rejection) -> Failure {
         Failure::Refused(rejection)
@@ -26,7 +30,7 @@ impl From<Rejection> for Failure {
 }
 
 impl<T: Drop> From<Declined<T>> for Failure {
-    ghost from_gives = { λ declined r. r ≡ failure.Refused declined.rejection };
+    ghost from_gives = { λ x y. y ≡ failure.Refused x.rejection };
 
     fn from(declined: Declined<T>) -> Failure {
         Failure::Refused(declined.rejection)
@@ -34,7 +38,7 @@ impl<T: Drop> From<Declined<T>> for Failure {
 }
 
 impl From<Expected> for Failure {
-    ghost from_gives = { λ wanted r. r ≡ failure.Expected wanted };
+    ghost from_gives = { λ x y. y ≡ failure.Expected x };
 
     fn from(expected: Expected) -> Failure {
         Failure::Expected(expected)
@@ -42,9 +46,31 @@ impl From<Expected> for Failure {
 }
 
 impl From<AllocError> for Failure {
-    ghost from_gives = { λ _ r. r ≡ failure.Expected expected.Memory };
+    ghost from_gives = { λ _ y. y ≡ failure.Expected memory };
 
-    fn from(_: AllocError) -> Failure {
-        Failure::Expected(Expected::Memory)
+    fn from(_error: AllocError) -> Failure {
+        Failure::Expected(Expected::Shared(Shared::Memory))
+    }
+}
+
+impl From<QueryFailure> for Failure {
+    ghost from_gives = { λ x y. y ≡ failure_for x };
+
+    fn from(failure: QueryFailure) -> Failure {
+        match failure {
+            QueryFailure::Refused(rejection) => Failure::Refused(rejection),
+            QueryFailure::Expected(expected) => Failure::Expected(Expected::Shared(expected)),
+        }
+    }
+}
+
+impl fmt::Display for Failure {
+    ghost output = { failure_line };
+
+    fn fmt<W: Write>(&self, f: &mut Formatter<W>) -> fmt::Result {
+        match self {
+            Failure::Refused(rejection) => write!(f, "refused {rejection}"),
+            Failure::Expected(expected) => write!(f, "error: expected {expected}"),
+        }
     }
 }

@@ -4,14 +4,10 @@ ghost use Rattle.feedtrace_tables.specs.Lines.{Ended, Finished, ReadInto, TableL
 
 use crate::answer::Answer;
 use crate::failure::Failure;
-use crate::line::split_word;
 use crate::loading::Loading;
 use crate::outcome::Outcome;
 use crate::session::Session;
-use crate::verb::{is_absent, is_same};
-
-/// The line behind the last one of a table.
-const END: &[u8] = b"end";
+use console::line::{is_absent, split_word};
 
 /// How many lines of a table there are between two remarks on how far it is.
 const REMARK_EVERY: u64 = 100_000;
@@ -23,37 +19,39 @@ impl Session {
         (lines > 0 && lines % REMARK_EVERY == 0).then_some(lines)
     }
 
-    /// Answers a line of the table that is being read.
-    pub(crate) fn table_line(&mut self, text: &[u8]) -> Result<Answer, Failure>
+    /// Answers a line of the table that is being read; nothing where it is only read.
+    pub(crate) fn table_line(&mut self, text: &[u8]) -> Result<Option<Answer>, Failure>
         ensures { TableLine text.now self.old result self.new }
     {
         let (word, _) = split_word(text);
         if is_absent(word) {
-            return Ok(Answer::Nothing);
+            return Ok(None);
         }
-        if is_same(text, END) {
-            return self.finish();
+        match text {
+            b"end" => self.finish(),
+            _ => {
+                self.read_line(text);
+                Ok(None)
+            }
         }
-        Ok(self.read_line(text))
     }
 
     /// Reads a line into the table that is being read.
-    fn read_line(&mut self, text: &[u8]) -> Answer
-        ensures { ReadInto text.now self.old result self.new }
+    fn read_line(&mut self, text: &[u8])
+        ensures { ReadInto text.now self.old self.new }
     {
         if let Some(loading) = &mut self.loading {
             loading.read(text);
         }
-        Answer::Nothing
     }
 
     /// Ends the table that is being read.
-    fn finish(&mut self) -> Result<Answer, Failure>
+    fn finish(&mut self) -> Result<Option<Answer>, Failure>
         ensures { Finished self.old result self.new }
     {
         match self.loading.take() {
-            Some(loading) => Ok(Answer::Task(self.end(loading)?)),
-            None => Ok(Answer::Nothing),
+            Some(loading) => Ok(Some(Answer::Task(self.end(loading)?))),
+            None => Ok(None),
         }
     }
 

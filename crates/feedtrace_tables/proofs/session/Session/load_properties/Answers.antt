@@ -26,5 +26,5 @@ returns c =
               (table_triples (vec_items d) (vec_items v))) made.2 made.3,
         ),
       ),
-      record { query = refl; book = refl; loading = refl },
+      record { queries = refl; book = refl; loading = refl },
     ))

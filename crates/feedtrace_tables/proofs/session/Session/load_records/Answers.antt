@@ -12,5 +12,5 @@ returns c =
       made.0,
       refl,
       (c.in_ok-catalogue.catalogue, (refl, ap (λ (v : Vec Record Global). vec_items v) made.1)),
-      record { query = refl; store = refl; loading = refl },
+      record { queries = refl; store = refl; loading = refl },
     ))

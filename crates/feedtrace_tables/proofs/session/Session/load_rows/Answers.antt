@@ -21,5 +21,5 @@ returns c =
               ∙ ap (λ (v : Vec Triple Global). listed c.args.top (vec_items v)) made.2,
         ),
       ),
-      record { query = refl; book = refl; loading = refl },
+      record { queries = refl; book = refl; loading = refl },
     ))
