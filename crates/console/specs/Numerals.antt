@@ -1,7 +1,7 @@
 -- Numbers, as decimal digits. Assumes nothing.
 --     number_after n text      n with the digits of text behind its own
 --     number_from most text    the number that text says, if it says one up to most
-use Rattle.std.specs.Prelude.{ℕ, ◌+◌, ◌-◌, ◌*◌, cond, ◌&&◌, List, [], ◌∷◌, Some, None, Option, nat_le}
+use Rattle.std.specs.Prelude.{ℕ, ◌+◌, ◌-◌, ◌*◌, cond, ◌&&◌, List, [], ◌∷◌, Some, None, Option, nat_le, nat_lt}
 use Rattle.std.specs.Prelude.{option_and_then}
 
 -- the greatest length that a command may give
@@ -26,3 +26,8 @@ limited most (Some n) = cond (nat_le n most) (Some n) None
 abbrev pub number_from : ℕ → List ℕ → Option ℕ
 number_from most [] = None
 number_from most (c ∷ cs) = limited most (number_after 0 (c ∷ cs))
+
+-- the number n with the digit c behind its own; none where c is no digit, or the number has more than 32 bits
+abbrev pub followed : ℕ → ℕ → Option ℕ
+followed n c =
+    option_and_then (λ d. cond (nat_lt (10 * n + d) 4294967296) (Some (10 * n + d)) None) (digit_value c)

@@ -1,6 +1,6 @@
 //! Numbers, as decimal digits.
 ghost use Rattle.std.specs.Prelude.{◌≡◌};
-ghost use Rattle.console.specs.Numerals.{digit_value, number_from};
+ghost use Rattle.console.specs.Numerals.{digit_value, followed, number_from};
 
 /// The number that decimal digits say; none where there is no digit or something else, or where the number is
 /// greater than `most`.
@@ -10,19 +10,22 @@ pub fn number_of(digits: &[u8], most: u32) -> Option<u32>
     if digits.is_empty() {
         return None;
     }
-    let mut number = 0u32;
-    for c in digits {
-        number = number.checked_mul(10)?.checked_add(digit(*c)?)?;
-    }
-    (number <= most).then_some(number)
+    digits
+        .iter()
+        .try_fold(0, |number, c| followed_by(number, *c))
+        .filter(|number| *number <= most)
+}
+
+/// The number with the digit behind its own; none where `c` is no digit, or the number has no room.
+fn followed_by(number: u32, c: u8) -> Option<u32>
+    ensures { result ≡ followed number c }
+{
+    number.checked_mul(10)?.checked_add(digit(c)?)
 }
 
 /// What a decimal digit counts.
 fn digit(c: u8) -> Option<u32>
     ensures { result ≡ digit_value c }
 {
-    match c {
-        b'0'..=b'9' => Some(u32::from(c - b'0')),
-        _ => None,
-    }
+    char::from(c).to_digit(10)
 }

@@ -1,4 +1,5 @@
-//! The session of a console: what is current between two lines, and one step of it, from a line to its answer.
+//! The session of a console: what is current between two lines, and one step of it, from a line to its
+//! answer.
 ghost use Rattle.std.specs.Prelude.{◌≡◌, [], map, None};
 ghost use Rattle.std.specs.Option.{unwrap_or};
 ghost use Rattle.query.specs.Parts.{group_of};

@@ -8,7 +8,9 @@ use Rattle.console.proofs.line.word_length.Goals as goal
 
 pub returns : goal.returns
 returns c =
-    let first = IsFirst-from_position _ _ c.position.result (λ x. x ≡ 32) (λ x. x ≢ 32) c.position.ensures.ran
-    (YieldsList-from_slice c.args.text.now cc) (λ x q k. search (rules, tests)) (λ x q k. search (rules, tests))
+    let first = IsFirst-from_position _ _ c.position.result (λ x. x ≡ 32) (λ x. x ≢ 32)
+    c.position.ensures.ran (YieldsList-from_slice c.args.text.now cc) (λ x q k. search (rules, tests))
+    (λ x q k. search (rules, tests))
     in c.unwrap_or.ensures ∙ sym (index_from_first word_length (λ x. x ≡ 32) (λ x. x ≢ 32) refl
-    (λ x xs h. grind (arith, nat_tests)) (λ x xs h. grind (arith, nat_tests)) c.args.text.now c.position.result first)
+    (λ x xs h. grind (arith, nat_tests)) (λ x xs h. grind (arith, nat_tests)) c.args.text.now
+    c.position.result first)

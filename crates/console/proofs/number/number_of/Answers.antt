@@ -1,23 +1,20 @@
--- A number that has no room is past the greatest, and so is each that follows it.
-use Rattle.std.proofs.Common.{◌≡◌, ℕ, Some, Option, sym, ◌∙◌, arith}
-use Rattle.console.proofs.Numerals.{limited_past}
+-- Each digit goes behind those before it, and a number with no room is past the greatest.
+use Rattle.std.proofs.Common.{◌≡◌, ◌∙◌, ap, arith, rules}
+use borrow.Author.Tests.{tests}
+use Rattle.console.proofs.Folds.{folded, folded-from_turns}
+use Rattle.console.proofs.Numerals.{limited-from_kept, limited_folded, number_from_digits}
+use Rattle.console.specs.Numerals.{followed, limited}
 use Rattle.console.proofs.number.number_of.Goals as goal
 
-same_value : {m : Option ℕ} (a b : ℕ) → m ≡ Some a → m ≡ Some b → a ≡ b
-same_value a b p q = cc
-
-pub returns-in_err-checked_mul : goal.returns-in_err-checked_mul
-returns-in_err-checked_mul c =
-    let full = c.in_err-checked_mul.ensures
-    in c.from_residual.ensures
-    ∙ sym (c.loop-c.invariant
-    ∙ limited_past c.args.most c.loop-c.number c.args.digits.now c.loop-c.c-index (omega arith)
-    (λ d _. omega arith))
-
-pub returns-in_err-number : goal.returns-in_err-number
-returns-in_err-number c =
-    let full = c.in_err-number.ensures
-    in c.from_residual-in_err-number.ensures
-    ∙ sym (c.loop-c.invariant
-    ∙ limited_past c.args.most c.loop-c.number c.args.digits.now c.loop-c.c-index (omega arith)
-    (λ d e. omega (arith, same_value d _ e (sym c.digit.ensures ∙ c.in_ok-digit.was))))
+pub returns : goal.returns
+returns c =
+    let ran = c.try_fold.ensures.ran in
+    let whole : c.try_fold.result ≡ folded followed 0 c.iter.result.rest.now =
+    folded-from_turns _ followed (λ p x q turn. search (rules, tests)) c.iter.result ran.4.0
+    c.try_fold.new.self ran.0 ran.1 (tt, 0) (ran.2, ran.3) c.try_fold.result _
+    (λ x b. search (rules, tests)) ran.4.1 ran.4.2 ran.5 ran.6 in
+    limited-from_kept c.args.most c.try_fold.result c.filter.result _ (λ n b. search (rules, tests))
+    c.filter.ensures
+    ∙ ap (limited c.args.most) (whole ∙ ap (folded followed 0) c.iter.ensures.rest)
+    ∙ limited_folded c.args.most (omega arith) c.args.digits.now 0
+    ∙ number_from_digits c.args.most c.args.digits.now (search (rules, tests))
