@@ -32,7 +32,8 @@ abbrev pub failure_for : queries.Failure → Failure
 failure_for (query.Refused r) = failure.Refused r
 failure_for (query.Expected e) = failure.Expected (expected.Shared e)
 
--- the line of a failure: a refusal by its published number, and its place; the words of an error are left open
+-- the line of a failure: a refusal by its published number and its place; the words of an error are left
+-- open
 abbrev pub failure_line : Failure → Option (List ℕ)
 failure_line (failure.Refused r) = Some (refused_line r)
 failure_line (failure.Expected e) = None

@@ -1,6 +1,6 @@
 -- What a line of a table answers, and what it leaves. Assumes nothing.
-use Rattle.std.specs.Prelude.{◌≡◌, ℕ, List, Some, None, Ok, Err, codes, Option, Result, MatchBool, MatchOption}
-use Rattle.std.specs.Prelude.{MatchResult}
+use Rattle.std.specs.Prelude.{◌≡◌, ℕ, List, Some, None, Ok, Err, codes, Option, Result, MatchBool}
+use Rattle.std.specs.Prelude.{MatchOption, MatchResult}
 use Rattle.std.specs.Str.{bytes_eq}
 use Rattle.console.specs.Words.{absent, word}
 use Rattle.feedtrace_tables.specs.declared.answer.Answer.{Answer}

@@ -7,7 +7,7 @@ use crate::outcome::Outcome;
 use crate::session::Session;
 use triples::triple::Triple;
 
-// Kept as two steps in each: with the change as a closure, the callers' contracts don't close.
+// Kept written out: where the change is a closure, what holds of it doesn't give what the layer promises.
 impl Session {
     /// Puts an inverse layer over the current store.
     pub(crate) fn lay_inverse(&mut self, property: u32, inverse: u32) -> Result<Outcome, Failure>

@@ -11,6 +11,7 @@ use triples::store::Store;
 use triples::triple::Triple;
 
 /// One of the two.
+// Kept as a type of its own: the two traits are other crates', and so would be the type.
 #[derive(Drop)]
 pub(crate) enum Either<A, B> {
     Left(A),

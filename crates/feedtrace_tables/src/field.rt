@@ -1,7 +1,8 @@
 //! The fields of a line, one after the other.
 ghost use Rattle.std.specs.Prelude.{◌≡◌};
 ghost use Rattle.feedtrace_tables.specs.Fields.{Parted, alone, first_from, first_number, first_position};
-ghost use Rattle.feedtrace_tables.specs.Fields.{first_signed, first_triple, next_word, behind_word, position_of};
+ghost use Rattle.feedtrace_tables.specs.Fields.{first_signed, first_triple, next_word, behind_word};
+ghost use Rattle.feedtrace_tables.specs.Fields.{position_of};
 
 use crate::number::{MOST_NUMBER, signed_of};
 use console::line::{split_word, trim_start};

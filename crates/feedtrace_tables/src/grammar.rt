@@ -1,8 +1,8 @@
 //! The forms of tasks.
 ghost use Rattle.std.specs.Prelude.{◌≡◌};
 ghost use Rattle.feedtrace_tables.specs.Fields.{Parted};
-ghost use Rattle.feedtrace_tables.specs.Forms.{catalogue_form, catalogue_of, inverse_form, seek_form, leap_form};
-ghost use Rattle.feedtrace_tables.specs.Forms.{selector_of, task_asked, task_fields, task_form};
+ghost use Rattle.feedtrace_tables.specs.Forms.{catalogue_form, catalogue_of, inverse_form, leap_form};
+ghost use Rattle.feedtrace_tables.specs.Forms.{seek_form, selector_of, task_asked, task_fields, task_form};
 
 use crate::expected::Expected;
 use crate::field::Fields;
@@ -19,13 +19,11 @@ impl Task {
         ensures { result ≡ task_asked text.now }
     {
         let (word, rest) = split_word(text);
-        match Verb::of(word) {
-            Some(verb) => match Task::of(verb, rest) {
-                Some(task) => Ok(Some(task)),
-                None => Err(Expected::Form(verb)),
-            },
-            None => Ok(None),
-        }
+        let Some(verb) = Verb::of(word) else {
+            return Ok(None);
+        };
+        let task = Task::of(verb, rest).ok_or(Expected::Form(verb))?;
+        Ok(Some(task))
     }
 
     /// The task that the word and what follows it are; none where it has another form.

@@ -23,6 +23,8 @@ Drafted-from_pushed make text m xs ys (Err e) takes put = (
 pub returns-in-property : goal.returns-in-property
 returns-in-property c =
     let is = text_from_reads c.word.result.now (codes "property") (omega arith) (search rules) in
-    λ top. Drafted-from_pushed (λ es. properties top es c.args.table.now.pairs.items) c.args.text.now c.entry.result
-    c.args.table.now.directory.items _ c.push-in-property.result
-    (rw (sym c.word.ensures.first ∙ is, ← c.word.ensures.rest, ← c.entry.ensures) refl) c.push-in-property.ensures
+    let table = c.args.table.now in
+    let put = c.push-in-property in
+    λ top. Drafted-from_pushed (λ es. properties top es table.pairs.items) c.args.text.now c.entry.result
+    table.directory.items _ put.result
+    (rw (sym c.word.ensures.first ∙ is, ← c.word.ensures.rest, ← c.entry.ensures) refl) put.ensures

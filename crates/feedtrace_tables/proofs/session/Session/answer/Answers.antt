@@ -9,9 +9,11 @@ use Rattle.feedtrace_tables.specs.Lines.{TableLine}
 use Rattle.console.specs.Words.{trimmed}
 use Rattle.feedtrace_tables.proofs.session.Session.answer.Goals as goal
 
+-- what was asked, if anything was
 abbrev found : Option Task → Result (Option Task) Expected
 found m = Ok m
 
+-- what holds where there is no value
 MatchOption-at_no : {A : Type 0} (o : Option A) {P : Type 0} (Q : A → Type 0) → false ≡ is_some o → P
     → MatchOption o P Q
 MatchOption-at_no None Q none p = p
@@ -20,9 +22,11 @@ MatchOption-at_no (Some x) Q none p = cc
 pub returns-in_ok-carry_out-in-Some : goal.returns-in_ok-carry_out-in-Some
 returns-in_ok-carry_out-in-Some c =
     let line = c.args.line.now in
+    let outcome = c.in_ok-carry_out-in-Some.field-0 in
     let asks : task_asked (trimmed line) ≡ Ok (Some c.in-Some.task) =
     ap task_asked (sym c.trim-2.ensures) ∙ sym c.parse.ensures ∙ c.in_ok-task.was
     ∙ ap found c.in-Some.is in
     MatchOption-at_no c.args.self.now.loading
-    (λ _. TableLine (trimmed line) c.args.self.now (Ok (Some (answer.Task c.in_ok-carry_out-in-Some.field-0))) c.carry_out.new.self) c.if-is_some.ensures
-    (rw asks (Ok c.in_ok-carry_out-in-Some.field-0, (refl, c.in_ok-carry_out-in-Some.ensures)))
+    (λ _. TableLine (trimmed line) c.args.self.now (Ok (Some (answer.Task outcome))) c.carry_out.new.self)
+    c.if-is_some.ensures
+    (rw asks (Ok outcome, (refl, c.in_ok-carry_out-in-Some.ensures)))
