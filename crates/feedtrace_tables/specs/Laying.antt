@@ -1,6 +1,7 @@
 -- What laying layers, withdrawing and restoring answer, and what they leave. Assumes nothing.
 --     Beside s t     t has the queries, the catalogue and the table of s
-use Rattle.std.specs.Prelude.{◌≡◌, ℕ, true, ◌&&◌, ◌⊎◌, [], length, Some, None, Ok, Err, MatchOption}
+use Rattle.std.specs.Prelude.{◌≡◌, ℕ, true, ◌&&◌, ◌⊎◌, List, [], length, Some, None, Ok, Err, MatchOption}
+use Rattle.std.specs.Prelude.{Result}
 use Rattle.refusal.specs.declared.refusal.Refusal.TheVariants.{PropertyOutside}
 use Rattle.refusal.specs.declared.rejection.Rejection.{Rejection}
 use Rattle.triples.specs.declared.triple.Triple.{Triple}
@@ -61,32 +62,27 @@ WithdrawnOn (Left below) r after =
     × ((layer.below ≡ below) × (members layer.gone ≡ []))))
 WithdrawnOn (Right layer) r after = (r ≡ lacks expected.Layering) × (after ≡ Right layer)
 
--- the triple was asked to be withdrawn from the layer: how many are withdrawn now, or the refusal
-abbrev pub WithdrawnBy : Triple → layers.Withdrawn Inverted → Carried → layers.Withdrawn Inverted → Type 0
-WithdrawnBy t a r b =
+-- the layer was asked to change what is withdrawn: P holds of the answer and of what is withdrawn then, which
+-- is counted; and what is below means what it meant
+abbrev pub Counted : (Result (Unit {0}) Rejection → List Triple → Type 0) → layers.Withdrawn Inverted → Carried
+    → layers.Withdrawn Inverted
+    → Type 0
+Counted P a r b =
     (inverted_meaning b.below ≡ inverted_meaning a.below)
-    × (((r ≡ Ok (outcome.Withdrawn (length (members b.gone))))
-    × Withdraws (inverted_meaning a.below) (members a.gone) t (Ok tt) (members b.gone))
-    ⊎ ((e : Rejection) × ((r ≡ refused e)
-    × Withdraws (inverted_meaning a.below) (members a.gone) t (Err e) (members b.gone))))
+    × (((r ≡ Ok (outcome.Withdrawn (length (members b.gone)))) × P (Ok tt) (members b.gone))
+    ⊎ ((e : Rejection) × ((r ≡ refused e) × P (Err e) (members b.gone))))
 
--- the triple was asked to be restored to the layer: how many are withdrawn now, or the refusal
-abbrev pub RestoredBy : Triple → layers.Withdrawn Inverted → Carried → layers.Withdrawn Inverted → Type 0
-RestoredBy t a r b =
-    (inverted_meaning b.below ≡ inverted_meaning a.below)
-    × (((r ≡ Ok (outcome.Withdrawn (length (members b.gone))))
-    × Restores (inverted_meaning a.below) (members a.gone) t (Ok tt) (members b.gone))
-    ⊎ ((e : Rejection) × ((r ≡ refused e)
-    × Restores (inverted_meaning a.below) (members a.gone) t (Err e) (members b.gone))))
+-- a withdrawn layer on top was asked, and P holds of it; or none is on top
+abbrev pub OnTop : (layers.Withdrawn Inverted → Carried → layers.Withdrawn Inverted → Type 0) → Layered → Carried
+    → Layered
+    → Type 0
+OnTop P (Left s) r after = (r ≡ lacks expected.WithdrawnLayer) × (after ≡ Left s)
+OnTop P (Right a) r after = (b : layers.Withdrawn Inverted) × ((after ≡ Right b) × P a r b)
 
--- withdrawing from the layer on top, if it is a withdrawn layer
+-- withdrawing the triple from the layer on top: how many are withdrawn now, or the refusal
 abbrev pub WithdrewOn : Triple → Layered → Carried → Layered → Type 0
-WithdrewOn t (Left s) r after = (r ≡ lacks expected.WithdrawnLayer) × (after ≡ Left s)
-WithdrewOn t (Right a) r after =
-    (b : layers.Withdrawn Inverted) × ((after ≡ Right b) × WithdrawnBy t a r b)
+WithdrewOn t = OnTop (λ a. Counted (Withdraws (inverted_meaning a.below) (members a.gone) t) a)
 
--- restoring to the layer on top, if it is a withdrawn layer
+-- restoring the triple to the layer on top: how many are withdrawn now, or the refusal
 abbrev pub RestoredOn : Triple → Layered → Carried → Layered → Type 0
-RestoredOn t (Left s) r after = (r ≡ lacks expected.WithdrawnLayer) × (after ≡ Left s)
-RestoredOn t (Right a) r after =
-    (b : layers.Withdrawn Inverted) × ((after ≡ Right b) × RestoredBy t a r b)
+RestoredOn t = OnTop (λ a. Counted (Restores (inverted_meaning a.below) (members a.gone) t) a)

@@ -16,17 +16,12 @@ use Rattle.feedtrace_tables.specs.declared.session.Session.{Session}
 use Rattle.feedtrace_tables.specs.Drafts.{Draft, rows, properties, records}
 use Rattle.feedtrace_tables.specs.Failures.{Carried, refused}
 use Rattle.feedtrace_tables.specs.Layerings.{bare}
+use Rattle.feedtrace_tables.specs.Laying.{Beside}
 
 -- the queries, the store and the table being read of t are those of s
 pub record ButBook (s t : Session) : Type 0 where
   pub queries : t.queries ≡ s.queries
   pub store : t.store ≡ s.store
-  pub loading : t.loading ≡ s.loading
-
--- the queries, the catalogue and the table being read of t are those of s
-pub record ButStore (s t : Session) : Type 0 where
-  pub queries : t.queries ≡ s.queries
-  pub book : t.book ≡ s.book
   pub loading : t.loading ≡ s.loading
 
 -- the table was loaded and is current, without layers; or it is refused, and the session is as it was
@@ -35,13 +30,13 @@ Loaded (rows top xs) s r t =
     (RowsOutcome top xs None × (r ≡ Ok (outcome.Rows top (length xs)))
     × ((made : RowStore)
     × ((t.store ≡ Some (bare (Left made))) × (rows_meaning made ≡ listed top xs)))
-    × ButStore s t)
+    × Beside s t)
     ⊎ ((e : Rejection) × (RowsOutcome top xs (Some e) × (r ≡ refused e) × (t ≡ s)))
 Loaded (properties top ds ps) s r t =
     (TableOutcome top ds ps None × (r ≡ Ok (outcome.Properties top (length ds) (length ps)))
     × ((made : PropertyStore) × ((t.store ≡ Some (bare (Right made)))
     × (table_meaning made ≡ listed top (table_triples ds ps))))
-    × ButStore s t)
+    × Beside s t)
     ⊎ ((e : Rejection) × (TableOutcome top ds ps (Some e) × (r ≡ refused e) × (t ≡ s)))
 Loaded (records rs) s r t =
     ((listed_outcome rs ≡ None) × (r ≡ Ok (outcome.Listed (length rs)))

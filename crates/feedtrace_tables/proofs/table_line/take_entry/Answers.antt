@@ -1,4 +1,4 @@
--- The first word is the name, and the element is put behind the list of directory entries.
+-- The first word is the name, and the element is put behind the list of that name.
 use Rattle.std.proofs.Common.{◌≡◌, List, [], ◌∷◌, ◌++◌, Ok, Err, Option, Result, codes, refl, sym, ap}
 use Rattle.std.proofs.Common.{◌∙◌, inl, inr, arith, rules}
 use Rattle.std.proofs.lemmas.Slice.Eq.{text_from_reads}
@@ -28,3 +28,12 @@ returns-in-property c =
     λ top. Drafted-from_pushed (λ es. properties top es table.pairs.items) c.args.text.now c.entry.result
     table.directory.items _ put.result
     (rw (sym c.word.ensures.first ∙ is, ← c.word.ensures.rest, ← c.entry.ensures) refl) put.ensures
+
+pub returns-in-pair : goal.returns-in-pair
+returns-in-pair c =
+    let is = text_from_reads c.word.result.now (codes "pair") (omega arith) (search rules) in
+    let table = c.args.table.now in
+    let put = c.push in
+    λ top. Drafted-from_pushed (properties top table.directory.items) c.args.text.now c.pair.result
+    table.pairs.items _ put.result
+    (rw (sym c.word.ensures.first ∙ is, ← c.word.ensures.rest, ← c.pair.ensures) refl) put.ensures

@@ -30,3 +30,15 @@ returns-in-withdrawn c = verb_of-reads c.args.word.now (codes "withdrawn") (omeg
 
 pub returns-in-112 : goal.returns-in-112
 returns-in-112 c = verb_of-reads c.args.word.now (codes "property-store") (omega arith) (search rules)
+
+pub returns-in-seek : goal.returns-in-seek
+returns-in-seek c = verb_of-reads c.args.word.now (codes "seek") (omega arith) (search rules)
+
+pub returns-in-leap : goal.returns-in-leap
+returns-in-leap c = verb_of-reads c.args.word.now (codes "leap") (omega arith) (search rules)
+
+pub returns-in-scan : goal.returns-in-scan
+returns-in-scan c = verb_of-reads c.args.word.now (codes "scan") (omega arith) (search rules)
+
+pub returns-in-trace : goal.returns-in-trace
+returns-in-trace c = verb_of-reads c.args.word.now (codes "trace") (omega arith) (search rules)
