@@ -64,7 +64,8 @@ WithdrawnOn (Right layer) r after = (r ≡ lacks expected.Layering) × (after �
 
 -- the layer was asked to change what is withdrawn: P holds of the answer and of what is withdrawn then, which
 -- is counted; and what is below means what it meant
-abbrev pub Counted : (Result (Unit {0}) Rejection → List Triple → Type 0) → layers.Withdrawn Inverted → Carried
+abbrev pub Counted : (Result (Unit {0}) Rejection → List Triple → Type 0) → layers.Withdrawn Inverted
+    → Carried
     → layers.Withdrawn Inverted
     → Type 0
 Counted P a r b =
@@ -73,7 +74,8 @@ Counted P a r b =
     ⊎ ((e : Rejection) × ((r ≡ refused e) × P (Err e) (members b.gone))))
 
 -- a withdrawn layer on top was asked, and P holds of it; or none is on top
-abbrev pub OnTop : (layers.Withdrawn Inverted → Carried → layers.Withdrawn Inverted → Type 0) → Layered → Carried
+abbrev pub OnTop : (layers.Withdrawn Inverted → Carried → layers.Withdrawn Inverted → Type 0) → Layered
+    → Carried
     → Layered
     → Type 0
 OnTop P (Left s) r after = (r ≡ lacks expected.WithdrawnLayer) × (after ≡ Left s)
