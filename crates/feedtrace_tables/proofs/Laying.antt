@@ -1,19 +1,12 @@
 -- Laws of changing a store: all but it is as it was. Assumes nothing.
-use Rattle.std.proofs.Common.{◌≡◌, Some, None, Option, sym, refl, subst, MatchOption}
-use Rattle.feedtrace_tables.specs.declared.answer.Answer.{Answer}
-use Rattle.feedtrace_tables.specs.declared.answer.Answer.TheVariants as answer
-use Rattle.feedtrace_tables.specs.declared.expected.Expected.TheVariants as expected
-use Rattle.feedtrace_tables.specs.declared.layered.Layered.{Layered}
+use Rattle.std.proofs.Common.{◌≡◌, Some, refl}
 use Rattle.feedtrace_tables.specs.declared.session.Session.{Session}
+use Rattle.feedtrace_tables.specs.Failures.{Carried}
+use Rattle.feedtrace_tables.specs.Layerings.{Layered}
 use Rattle.feedtrace_tables.specs.Laying.{Changed}
 
-pub changed_some : (P : Layered → Answer → Layered → Type 0) (s : Session) (l m : Layered) (r : Answer)
+pub changed_some : (P : Layered → Carried → Layered → Type 0) (s : Session) (l m : Layered) (r : Carried)
     → s.store ≡ Some l → P l r m
-    → Changed P s r (record { query = s.query; store = Some m; book = s.book; loading = s.loading })
-changed_some P s l m r is p = (
-  record { query = refl; book = refl; loading = refl },
-  subst
-      (λ (o : Option Layered). MatchOption o ((r ≡ answer.Error expected.Store) × (Some m ≡ None))
-      (λ l. (k : Layered) × ((Some m ≡ Some k) × P l r k)))
-      (sym is) (m, (refl, p)),
-)
+    → Changed P s r (record { queries = s.queries; store = Some m; book = s.book; loading = s.loading })
+changed_some P s l m r is p =
+    (record { queries = refl; book = refl; loading = refl }, rw is (m, (refl, p)))

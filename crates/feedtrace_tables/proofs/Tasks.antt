@@ -2,25 +2,23 @@
 use Rattle.std.proofs.Common.{◌≡◌, Some, Option, sym, refl, ap, ◌∙◌, subst, MatchOption}
 use Rattle.std.specs.Option.{option_map}
 use Rattle.triples.specs.Meaning.{Meaning}
-use Rattle.feedtrace_tables.specs.declared.answer.Answer.{Answer}
-use Rattle.feedtrace_tables.specs.declared.answer.Answer.TheVariants as answer
+use Rattle.feedtrace_tables.specs.Failures.{Carried, lacks}
 use Rattle.feedtrace_tables.specs.declared.expected.Expected.TheVariants as expected
-use Rattle.feedtrace_tables.specs.declared.layered.Layered.{Layered}
+use Rattle.feedtrace_tables.specs.Layerings.{Layered, layered_meaning}
 use Rattle.feedtrace_tables.specs.declared.session.Session.{Session}
-use Rattle.feedtrace_tables.specs.Layerings.{layered_meaning}
 use Rattle.feedtrace_tables.specs.Tasks.{Asked}
 
-pub asked_some : (P : Meaning → Answer → Type 0) (s : Session) (l m : Layered) (r : Answer)
+pub asked_some : (P : Meaning → Carried → Type 0) (s : Session) (l m : Layered) (r : Carried)
     → s.store ≡ Some l
     → layered_meaning m ≡ layered_meaning l → P (layered_meaning l) r
-    → Asked P s r (record { query = s.query; store = Some m; book = s.book; loading = s.loading })
+    → Asked P s r (record { queries = s.queries; store = Some m; book = s.book; loading = s.loading })
 asked_some P s l m r is same p = (
   record {
-    query = refl;
+    queries = refl;
     store = ap Some same ∙ sym (ap (option_map layered_meaning) is);
     book = refl;
     loading = refl;
   },
-  subst (λ (o : Option Layered). MatchOption o (r ≡ answer.Error expected.Store) (λ l. P (layered_meaning l) r))
+  subst (λ (o : Option Layered). MatchOption o (r ≡ lacks expected.Store) (λ l. P (layered_meaning l) r))
       (sym is) p,
 )

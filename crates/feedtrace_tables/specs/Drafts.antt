@@ -1,7 +1,8 @@
 -- A table while its lines come in. Assumes nothing.
 --     drafted d text     the draft d with the element of the line text behind its list
 use Rattle.std.specs.Prelude.{◌≡◌, ℕ, ◌⊎◌, List, [], ◌∷◌, ◌++◌, Some, None, Ok, Err, vec_items, codes, Option}
-use Rattle.std.specs.Prelude.{Result, MatchOption}
+use Rattle.std.specs.Prelude.{Result, MatchResult, cond}
+use Rattle.std.specs.Str.{bytes_eq}
 use Rattle.triples.specs.declared.entry.DirectoryEntry.{DirectoryEntry}
 use Rattle.triples.specs.declared.pair.Pair.{Pair}
 use Rattle.triples.specs.declared.property_store.PropertyTable.{PropertyTable}
@@ -12,8 +13,9 @@ use Rattle.feedtrace_tables.specs.declared.expected.Expected.TheVariants as expe
 use Rattle.feedtrace_tables.specs.declared.loading.Loading.{Loading}
 use Rattle.feedtrace_tables.specs.declared.loading.Lists.{Lists}
 use Rattle.feedtrace_tables.specs.declared.loading.Lists.TheVariants.{Rows, Properties, Records}
-use Rattle.feedtrace_tables.specs.Fields.{then, behind, only_triple}
-use Rattle.feedtrace_tables.specs.TableLines.{entry_line, pair_line, record_line}
+use Rattle.feedtrace_tables.specs.Failures.{memory}
+use Rattle.feedtrace_tables.specs.Fields.{◌>>=◌, behind_word, next_word}
+use Rattle.feedtrace_tables.specs.TableLines.{entry_line, pair_line, record_line, row_line}
 
 -- the lists of a table so far
 pub data Draft : Type 0 where
@@ -29,29 +31,29 @@ draft_of (Records v) = records (vec_items v)
 
 -- the element behind the list, if there is an element
 abbrev pub added : {A : Type 0} → List A → (List A → Draft) → Option A → Option Draft
-added xs make m = then m (λ x. Some (make (xs ++ x ∷ [])))
+added xs make m = m >>= (λ x. Some (make (xs ++ x ∷ [])))
 
--- the draft with a pair line's element, if the line is one
-abbrev pub pair_drafted : ℕ → List DirectoryEntry → List Pair → Option (List ℕ) → Option Draft
-pair_drafted top ds ps rest = then rest (λ text. added ps (properties top ds) (pair_line text))
-
--- the draft with the element of a line behind property, if there is one, or else of a pair line
-abbrev pub entry_drafted : ℕ → List DirectoryEntry → List Pair → List ℕ → Option (List ℕ) → Option Draft
-entry_drafted top ds ps text None = pair_drafted top ds ps (behind (codes "pair") text)
-entry_drafted top ds ps text (Some rest) = added ds (λ es. properties top es ps) (entry_line rest)
+-- the draft with the element of a line whose first word is property or pair; none for another word
+abbrev pub entry_drafted : ℕ → List DirectoryEntry → List Pair → List ℕ → List ℕ → Option Draft
+entry_drafted top ds ps w rest =
+    cond (bytes_eq w (codes "property")) (added ds (λ es. properties top es ps) (entry_line rest))
+    (cond (bytes_eq w (codes "pair")) (added ps (properties top ds) (pair_line rest)) None)
 
 -- the draft with the element of the line behind its list; none where the line has another form
 abbrev pub drafted : Draft → List ℕ → Option Draft
-drafted (rows top xs) text = added xs (rows top) (only_triple text)
-drafted (properties top ds ps) text = entry_drafted top ds ps text (behind (codes "property") text)
+drafted (rows top xs) text = added xs (rows top) (row_line text)
+drafted (properties top ds ps) text = entry_drafted top ds ps (next_word text) (behind_word text)
 drafted (records rs) text = added rs records (record_line text)
 
--- the line was taken; or it has another form, or memory is wanting, and the draft is as it was
+-- the line was not taken, since x is expected: it has another form, or memory is wanting
+abbrev pub Untaken : Draft → List ℕ → Expected → Type 0
+Untaken d text x =
+    ((x ≡ expected.TableLines) × (drafted d text ≡ None))
+    ⊎ ((x ≡ memory) × ((f : Draft) × (drafted d text ≡ Some f)))
+
+-- the line was taken; or it was not, and the draft is as it was
 abbrev pub Drafted : {U : Type 0} → Draft → List ℕ → Result U Expected → Draft → Type 0
-Drafted d text (Ok _) e = drafted d text ≡ Some e
-Drafted d text (Err x) e =
-    (e ≡ d) × (((x ≡ expected.TableLines) × (drafted d text ≡ None))
-    ⊎ ((x ≡ expected.Memory) × ((f : Draft) × (drafted d text ≡ Some f))))
+Drafted d text r e = MatchResult r (λ _. drafted d text ≡ Some e) (λ x. (e ≡ d) × Untaken d text x)
 
 -- the same of a property store's table
 abbrev pub EntryTaken : {U : Type 0} → List ℕ → PropertyTable → Result U Expected → PropertyTable → Type 0
@@ -59,21 +61,23 @@ EntryTaken text a r b =
     (top : ℕ) → Drafted (properties top (vec_items a.directory) (vec_items a.pairs)) text r
     (properties top (vec_items b.directory) (vec_items b.pairs))
 
--- what is to be loaded: the draft, and what was expected where a line was wrong
-pub record Pending : Type 0 where
-  pub draft : Draft
-  pub wrong : Option Expected
+-- what is to be loaded: the draft, or what was expected where a line was wrong
+abbrev pub Pending : Type 0
+Pending = Result Draft Expected
+
+-- the lists, if no line was wrong, as plain ones
+abbrev pub draft_or : Result Lists Expected → Pending
+draft_or (Ok lists) = Ok (draft_of lists)
+draft_or (Err x) = Err x
 
 -- what is to be loaded, of a table that is being read
 abbrev pub pending_of : Loading → Pending
-pending_of l = record { draft = draft_of l.lists; wrong = l.wrong }
+pending_of l = draft_or l.lists
 
--- the line was taken into the draft; or it was not, and is remembered by what was expected
+-- the line was taken into the draft; or it was not, and what was expected is remembered
 abbrev pub LineTried : Draft → List ℕ → Pending → Type 0
-LineTried d text q = MatchOption q.wrong (drafted d text ≡ Some q.draft)
-    (λ x. Drafted {U = Unit {0}} d text (Err x) q.draft)
+LineTried d text q = MatchResult q (λ e. drafted d text ≡ Some e) (Untaken d text)
 
 -- a line was read: after a wrong line no more is taken; else the line is taken, or it is the wrong one
 abbrev pub LineRead : Pending → List ℕ → Pending → Type 0
-LineRead p text q =
-    MatchOption p.wrong (LineTried p.draft text q) (λ _. q ≡ p)
+LineRead p text q = MatchResult p (λ d. LineTried d text q) (λ _. q ≡ p)

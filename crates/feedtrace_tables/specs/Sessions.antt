@@ -1,91 +1,43 @@
--- What a session's step answers, and what is current behind it. Assumes nothing.
---     current s       the current query, by its alternatives; none where there is none
---     Steps s c r t   from the session s, the command c is answered by r and leaves the session t
-use Rattle.std.specs.Prelude.{◌≡◌, ℕ, ◌<◌, ◌≤◌, ◌⊎◌, List, length, Some, None, Ok, Err, vec_items, Option}
-use Rattle.std.specs.Prelude.{Result, Vec, MatchOption}
-use Rattle.std.specs.Option.{option_map}
-use Rattle.refusal.specs.declared.refusal.Refusal.TheVariants.{BufferShort}
-use Rattle.refusal.specs.declared.rejection.Rejection.{Rejection}
-use Rattle.query.specs.declared.query.Query as queries
-use Rattle.query.specs.Format.{bytes_of}
-use Rattle.query.specs.Grammar.{accepted, rejected, verdict}
-use Rattle.query.specs.Parts.{Group}
-use Rattle.query.specs.Shape.{shape, counts_of}
-use Rattle.feedtrace_tables.specs.declared.answer.Answer.{Answer}
-use Rattle.feedtrace_tables.specs.declared.answer.Answer.TheVariants.{Nothing, Counts, Refused, Bytes, Shown}
-use Rattle.feedtrace_tables.specs.declared.answer.Answer.TheVariants.{Task}
-use Rattle.feedtrace_tables.specs.declared.answer.Answer.TheVariants.{Error}
-use Rattle.feedtrace_tables.specs.declared.command.Command.{Command}
-use Rattle.feedtrace_tables.specs.declared.command.Command.TheVariants as command
-use Rattle.feedtrace_tables.specs.declared.expected.Expected.TheVariants as expected
+-- What a session answers to a line, and what is current behind it. Assumes nothing.
+--     Answered l s r t     from the session s, the line l is answered by r and leaves the session t
+use Rattle.std.specs.Prelude.{◌≡◌, ℕ, List, Some, None, Ok, Err, Option, Result, MatchOption}
+use Rattle.console.specs.declared.answer.Answer as answers
+use Rattle.console.specs.declared.failure.Failure as failures
+use Rattle.console.specs.Sessions as console
+use Rattle.console.specs.Words.{trimmed}
+use Rattle.feedtrace_tables.specs.declared.answer.Answer.TheVariants.{Query}
+use Rattle.feedtrace_tables.specs.declared.expected.Expected.{Expected}
 use Rattle.feedtrace_tables.specs.declared.session.Session.{Session}
+use Rattle.feedtrace_tables.specs.declared.task.Task.{Task}
 use Rattle.feedtrace_tables.specs.Does.{Does}
-use Rattle.feedtrace_tables.specs.Lines.{TableLine}
-use Rattle.feedtrace_tables.specs.Requests.{asked, Meets}
-use Rattle.feedtrace_tables.specs.Words.{trimmed}
+use Rattle.feedtrace_tables.specs.Failures.{Carried, failure_for, lacks}
+use Rattle.feedtrace_tables.specs.Forms.{task_asked}
+use Rattle.feedtrace_tables.specs.Lines.{Told, answered, TableLine}
 
--- the current query, by its alternatives
-abbrev pub current : Session → Option (List Group)
-current s = option_map shape s.query
+-- the answer to a line about queries, as one of this console
+abbrev pub told : Result (Option answers.Answer) failures.Failure → Told
+told (Ok None) = Ok None
+told (Ok (Some a)) = Ok (Some (Query a))
+told (Err e) = Err (failure_for e)
 
--- these bytes were asked to be read: they are a query, which is counted and current now; or they are
--- refused, or there is no memory for it, and then the session is as it was
-abbrev pub Took : List ℕ → Session → Answer → Session → Type 0
-Took bytes s (Counts c) t =
-    (q : List Group) × ((verdict bytes ≡ accepted q) × ((c ≡ counts_of q) × (current t ≡ Some q)))
-Took bytes s (Refused e) t = (verdict bytes ≡ rejected e.refusal e.place) × (t ≡ s)
-Took bytes s (Error e) t =
-    (e ≡ expected.Memory) × (((q : List Group) × (verdict bytes ≡ accepted q)) × (t ≡ s))
-Took bytes s Nothing t = ⊥
-Took bytes s (Bytes v) t = ⊥
-Took bytes s Shown t = ⊥
-Took bytes s (Task o) t = ⊥
+-- the line was answered as one about queries, and all but these is as it was
+pub record Passed (line : List ℕ) (s : Session) (r : Told) (t : Session) : Type 0 where
+  pub answer : (x : Result (Option answers.Answer) failures.Failure)
+      × ((r ≡ told x) × console.Answered line s.queries x t.queries)
+  pub store : t.store ≡ s.store
+  pub book : t.book ≡ s.book
+  pub loading : t.loading ≡ s.loading
 
--- the current query was asked to be written into a buffer of n bytes: its bytes; or the refusal of a short
--- buffer; or there is no current query, or no memory for the buffer
-abbrev pub Wrote : ℕ → Session → Answer → Type 0
-Wrote n s (Bytes v) =
-    (q : List Group) × ((current s ≡ Some q) × ((length (bytes_of q) ≤ n) × (vec_items v ≡ bytes_of q)))
-Wrote n s (Refused e) =
-    (q : List Group) × ((current s ≡ Some q)
-    × ((n < length (bytes_of q)) × (e ≡ record { refusal = BufferShort; place = 0 })))
-Wrote n s (Error e) =
-    ((e ≡ expected.Query) × (current s ≡ None))
-    ⊎ ((e ≡ expected.Memory) × ((q : List Group) × (current s ≡ Some q)))
-Wrote n s Nothing = ⊥
-Wrote n s (Counts c) = ⊥
-Wrote n s Shown = ⊥
-Wrote n s (Task o) = ⊥
-
--- the current query was asked to be shown: there is one, or there is none
-abbrev pub Showed : Session → Answer → Type 0
-Showed s Shown = (q : List Group) × (current s ≡ Some q)
-Showed s (Error e) = (e ≡ expected.Query) × (current s ≡ None)
-Showed s Nothing = ⊥
-Showed s (Counts c) = ⊥
-Showed s (Refused e) = ⊥
-Showed s (Bytes v) = ⊥
-Showed s (Task o) = ⊥
-
--- the answer to a command, and the session behind it
-abbrev pub Steps : Session → Command → Answer → Session → Type 0
-Steps s command.Nothing r t = (r ≡ Nothing) × (t ≡ s)
-Steps s (command.Query v) r t = Took (vec_items v) s r t
-Steps s (command.Write n) r t = Wrote n s r × (t ≡ s)
-Steps s command.Show r t = Showed s r × (t ≡ s)
-Steps s (command.Task c) r t = Does c s r t
-Steps s (command.Malformed e) r t = (r ≡ Error e) × (t ≡ s)
+-- the answer to a line that asks this of tables and layers, and the session behind it: the task is carried
+-- out, or the line is one about queries, or it has another form than its task's
+abbrev pub Handled : List ℕ → Result (Option Task) Expected → Session → Told → Session → Type 0
+Handled line (Ok None) s r t = Passed line s r t
+Handled line (Ok (Some c)) s r t = (x : Carried) × ((r ≡ answered x) × Does c s x t)
+Handled line (Err e) s r t = (r ≡ lacks e) × (t ≡ s)
 
 -- the answer to a line, and the session behind it: a line of the table that is being read, or else the
 -- command that the line asks
-abbrev pub Answered : List ℕ → Session → Answer → Session → Type 0
+abbrev pub Answered : List ℕ → Session → Told → Session → Type 0
 Answered line s r t =
-    MatchOption s.loading ((c : Command) × (Meets (asked line) c × Steps s c r t))
+    MatchOption s.loading (Handled line (task_asked (trimmed line)) s r t)
     (λ _. TableLine (trimmed line) s r t)
-
--- a buffer of n bytes was filled by the query: its bytes, or the refusal of a short buffer
-abbrev pub Filled : {E Z : Type 0} → queries.Query → ℕ → Result (Result (Vec ℕ Z) Rejection) E → Type 0
-Filled q n (Ok (Ok v)) = (length (bytes_of (shape q)) ≤ n) × (vec_items v ≡ bytes_of (shape q))
-Filled q n (Ok (Err e)) = (n < length (bytes_of (shape q)))
-    × (e ≡ record { refusal = BufferShort; place = 0 })
-Filled q n (Err _) = Unit {0}

@@ -2,30 +2,37 @@
 use Rattle.std.specs.Prelude.{◌≡◌, ℕ, ◌⊎◌, List, [], ◌∷◌, ◌++◌, Some, None, Ok, Err, Option, Result}
 use Rattle.triples.specs.declared.entry.DirectoryEntry.{DirectoryEntry}
 use Rattle.triples.specs.declared.pair.Pair.{Pair}
+use Rattle.triples.specs.declared.triple.Triple.{Triple}
 use Rattle.catalogue.specs.declared.record.Record.{Record}
 use Rattle.feedtrace_tables.specs.declared.expected.Expected.{Expected}
 use Rattle.feedtrace_tables.specs.declared.expected.Expected.TheVariants as expected
-use Rattle.feedtrace_tables.specs.Fields.{then, first_number, only_number}
-use Rattle.feedtrace_tables.specs.Numerals.{signed_from}
-use Rattle.feedtrace_tables.specs.Words.{unindented}
+use Rattle.feedtrace_tables.specs.Failures.{memory}
+use Rattle.feedtrace_tables.specs.Fields.{◌>>=◌, alone, first_number, first_signed, first_triple, only}
 
--- two numbers, if nothing follows them
-abbrev pub only_numbers : List ℕ → Option (ℕ × ℕ)
-only_numbers text = then (first_number text) (λ x. then (only_number x.1) (λ y. Some (x.0, y)))
+-- a triple
+abbrev pub row_line : List ℕ → Option Triple
+row_line text = only (first_triple text)
 
 -- a directory entry
 abbrev pub entry_line : List ℕ → Option DirectoryEntry
-entry_line text = then (only_numbers text) (λ x. Some (record { property = x.0; first = x.1 }))
+entry_line text = do
+  property ← first_number text
+  first ← first_number property.1
+  alone (record { property = property.0; first = first.0 }) first.1
 
 -- a pair
 abbrev pub pair_line : List ℕ → Option Pair
-pair_line text = then (only_numbers text) (λ x. Some (record { subject = x.0; object = x.1 }))
+pair_line text = do
+  subject ← first_number text
+  object ← first_number subject.1
+  alone (record { subject = subject.0; object = object.0 }) object.1
 
--- a kind and a value with its sign, if nothing follows them
+-- a kind and a value with its sign
 abbrev pub record_line : List ℕ → Option Record
-record_line text =
-    then (first_number text) (λ k. then (signed_from (unindented k.1))
-    (λ v. Some (record { kind = k.0; value = v })))
+record_line text = do
+  kind ← first_number text
+  value ← first_signed kind.1
+  alone (record { kind = kind.0; value = value.0 }) value.1
 
 -- the element, if there is one, was put behind the list; or there is none, or memory is wanting, and the list
 -- is as it was
@@ -33,4 +40,4 @@ abbrev pub Pushed : {A U : Type 0} → Option A → List A → Result U Expected
 Pushed {A} m xs (Ok _) ys = (x : A) × ((m ≡ Some x) × (ys ≡ xs ++ x ∷ []))
 Pushed {A} m xs (Err e) ys =
     (ys ≡ xs) × (((e ≡ expected.TableLines) × (m ≡ None))
-    ⊎ ((e ≡ expected.Memory) × ((x : A) × (m ≡ Some x))))
+    ⊎ ((e ≡ memory) × ((x : A) × (m ≡ Some x))))

@@ -2,8 +2,8 @@
 ghost use Rattle.feedtrace_tables.specs.Tasks.{Asked, Looked, SeekAnswer, LeapAnswer, ScanAnswer};
 ghost use Rattle.feedtrace_tables.specs.Tasks.{TraceAnswer};
 
-use crate::answer::Answer;
 use crate::expected::Expected;
+use crate::failure::Failure;
 use crate::outcome::Outcome;
 use crate::session::Session;
 use catalogue::catalogue::Catalogue;
@@ -17,56 +17,47 @@ use triples::triple::Triple;
 
 impl Session {
     /// The least triple of the current store that matches and is not below the start.
-    pub(crate) fn seek(&mut self, selector: Selector, start: Triple) -> Answer
+    pub(crate) fn seek(&mut self, selector: Selector, start: Triple) -> Result<Outcome, Failure>
         ensures { Asked (SeekAnswer selector start) self.old result self.new }
     {
-        match &mut self.store {
-            None => Answer::Error(Expected::Store),
-            Some(store) => Answer::Task(Outcome::Found(store.seek(selector, start))),
-        }
+        let store = self.store.as_mut().ok_or(Expected::Store)?;
+        Ok(Outcome::Found(store.seek(selector, start)))
     }
 
     /// The smallest number from the bound on at the position of a matching triple of the current store.
-    pub(crate) fn leap(&mut self, position: Position, selector: Selector, bound: u32) -> Answer
+    pub(crate) fn leap(
+        &mut self,
+        position: Position,
+        selector: Selector,
+        bound: u32,
+    ) -> Result<Outcome, Failure>
         ensures { Asked (LeapAnswer position selector bound) self.old result self.new }
     {
-        match &mut self.store {
-            None => Answer::Error(Expected::Store),
-            Some(store) => Answer::Task(Outcome::Number(store.leap(position, selector, bound))),
-        }
+        let store = self.store.as_mut().ok_or(Expected::Store)?;
+        Ok(Outcome::Number(store.leap(position, selector, bound)))
     }
 
     /// The triples of the current store that match, ascending.
-    pub(crate) fn scan(&mut self, heap: Global, selector: Selector) -> Answer
+    pub(crate) fn scan(&mut self, heap: Global, selector: Selector) -> Result<Outcome, Failure>
         ensures { Asked (ScanAnswer selector) self.old result self.new }
     {
-        match &mut self.store {
-            None => Answer::Error(Expected::Store),
-            Some(store) => match scan(heap, store, selector) {
-                Ok(triples) => Answer::Task(Outcome::Triples(triples)),
-                Err(_) => Answer::Error(Expected::Memory),
-            },
-        }
+        let store = self.store.as_mut().ok_or(Expected::Store)?;
+        Ok(Outcome::Triples(scan(heap, store, selector)?))
     }
 
     /// The terms that the term reaches in the current store, breadth first.
-    pub(crate) fn trace(&mut self, heap: Global, term: u32) -> Answer
+    pub(crate) fn trace(&mut self, heap: Global, term: u32) -> Result<Outcome, Failure>
         ensures { Asked (TraceAnswer term) self.old result self.new }
     {
-        match &mut self.store {
-            None => Answer::Error(Expected::Store),
-            Some(store) => match reached_from(heap, store, term) {
-                Ok(terms) => Answer::Task(Outcome::Terms(terms)),
-                Err(_) => Answer::Error(Expected::Memory),
-            },
-        }
+        let store = self.store.as_mut().ok_or(Expected::Store)?;
+        Ok(Outcome::Terms(reached_from(heap, store, term)?))
     }
 
     /// Kind and value of the number in the current catalogue.
-    pub(crate) fn lookup(&mut self, number: u32) -> Answer
+    pub(crate) fn lookup(&mut self, number: u32) -> Outcome
         ensures { Looked number self.old result self.new }
     {
         let (kind, value) = self.book.lookup(number);
-        Answer::Task(Outcome::Entry(kind, value))
+        Outcome::Entry { kind, value }
     }
 }

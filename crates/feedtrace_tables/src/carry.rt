@@ -3,8 +3,8 @@ ghost use Rattle.std.specs.Prelude.{◌≡◌, []};
 ghost use Rattle.feedtrace_tables.specs.Drafts.{draft_of};
 ghost use Rattle.feedtrace_tables.specs.Does.{Begun, Inlined, Does};
 
-use crate::answer::Answer;
-use crate::book::Book;
+use crate::either::Either;
+use crate::failure::Failure;
 use crate::loading::{Lists, Loading};
 use crate::outcome::Outcome;
 use crate::session::Session;
@@ -15,44 +15,43 @@ use triples::property_store::PropertyTable;
 
 impl Session {
     /// Carries out the task.
-    pub(crate) fn carry_out(&mut self, heap: Global, task: Task) -> Answer
+    pub(crate) fn carry_out(&mut self, heap: Global, task: Task) -> Result<Outcome, Failure>
         ensures { Does task self.old result self.new }
     {
         match task {
-            Task::RowStore(top) => self.begin(Lists::Rows(top, Vec::new(heap))),
-            Task::PropertyStore(top) => self.begin(Lists::Properties(top, empty_table(heap))),
-            Task::ListedCatalogue => self.begin(Lists::Records(Vec::new(heap))),
-            Task::InlineCatalogue => self.take_inline(),
+            Task::RowStore(top) => Ok(self.begin(Lists::Rows(top, Vec::new(heap)))),
+            Task::PropertyStore(top) => Ok(self.begin(Lists::Properties(top, empty_table(heap)))),
+            Task::ListedCatalogue => Ok(self.begin(Lists::Records(Vec::new(heap)))),
+            Task::InlineCatalogue => Ok(self.take_inline()),
             Task::Inverse(property, inverse) => self.lay_inverse(property, inverse),
             Task::Withdrawn => self.lay_withdrawn(),
             Task::Withdraw(triple) => self.withdraw(triple),
             Task::Restore(triple) => self.restore(triple),
             Task::Seek(selector, start) => self.seek(selector, start),
             Task::Leap(position, selector, bound) => self.leap(position, selector, bound),
-            Task::Lookup(number) => self.lookup(number),
+            Task::Lookup(number) => Ok(self.lookup(number)),
             Task::Scan(selector) => self.scan(heap, selector),
             Task::Trace(term) => self.trace(heap, term),
         }
     }
 
     /// Begins a table with these lists, which are empty.
-    fn begin(&mut self, lists: Lists) -> Answer
+    fn begin(&mut self, lists: Lists) -> Outcome
         ensures { Begun (draft_of lists) self.old result self.new }
     {
         self.loading = Some(Loading {
-            lists,
-            wrong: None,
+            lists: Ok(lists),
             lines: 0,
         });
-        Answer::Task(Outcome::Begun)
+        Outcome::Begun
     }
 
     /// The inline catalogue becomes the current one.
-    fn take_inline(&mut self) -> Answer
+    fn take_inline(&mut self) -> Outcome
         ensures { Inlined self.old result self.new }
     {
-        self.book = Book::Inline(Inline);
-        Answer::Task(Outcome::Inline)
+        self.book = Either::Left(Inline);
+        Outcome::Inline
     }
 }
 

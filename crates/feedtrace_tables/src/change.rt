@@ -1,57 +1,47 @@
 //! Changing the layers over the current store.
 ghost use Rattle.feedtrace_tables.specs.Laying.{Changed, InverseOn, WithdrawnOn, WithdrewOn, RestoredOn};
 
-use crate::answer::Answer;
 use crate::expected::Expected;
+use crate::failure::Failure;
+use crate::outcome::Outcome;
 use crate::session::Session;
 use triples::triple::Triple;
 
+// Kept written out: where the change is a closure, what holds of it doesn't give what the layer promises.
 impl Session {
     /// Puts an inverse layer over the current store.
-    pub(crate) fn lay_inverse(&mut self, property: u32, inverse: u32) -> Answer
+    pub(crate) fn lay_inverse(&mut self, property: u32, inverse: u32) -> Result<Outcome, Failure>
         ensures { Changed (InverseOn property inverse) self.old result self.new }
     {
-        match self.store.take() {
-            None => Answer::Error(Expected::Store),
-            Some(store) => {
-                let (after, answer) = store.under_inverse(property, inverse);
-                self.store = Some(after);
-                answer
-            }
-        }
+        let store = self.store.take().ok_or(Expected::Store)?;
+        let (after, outcome) = store.under_inverse(property, inverse);
+        self.store = Some(after);
+        outcome
     }
 
     /// Puts a withdrawn layer over the current store.
-    pub(crate) fn lay_withdrawn(&mut self) -> Answer
+    pub(crate) fn lay_withdrawn(&mut self) -> Result<Outcome, Failure>
         ensures { Changed WithdrawnOn self.old result self.new }
     {
-        match self.store.take() {
-            None => Answer::Error(Expected::Store),
-            Some(store) => {
-                let (after, answer) = store.under_withdrawn();
-                self.store = Some(after);
-                answer
-            }
-        }
+        let store = self.store.take().ok_or(Expected::Store)?;
+        let (after, outcome) = store.under_withdrawn();
+        self.store = Some(after);
+        outcome
     }
 
     /// Withdraws the triple from the current store.
-    pub(crate) fn withdraw(&mut self, triple: Triple) -> Answer
+    pub(crate) fn withdraw(&mut self, triple: Triple) -> Result<Outcome, Failure>
         ensures { Changed (WithdrewOn triple) self.old result self.new }
     {
-        match &mut self.store {
-            None => Answer::Error(Expected::Store),
-            Some(store) => store.withdraw(triple),
-        }
+        let store = self.store.as_mut().ok_or(Expected::Store)?;
+        store.withdraw(triple)
     }
 
     /// Restores the triple to the current store.
-    pub(crate) fn restore(&mut self, triple: Triple) -> Answer
+    pub(crate) fn restore(&mut self, triple: Triple) -> Result<Outcome, Failure>
         ensures { Changed (RestoredOn triple) self.old result self.new }
     {
-        match &mut self.store {
-            None => Answer::Error(Expected::Store),
-            Some(store) => store.restore(triple),
-        }
+        let store = self.store.as_mut().ok_or(Expected::Store)?;
+        store.restore(triple)
     }
 }

@@ -1,80 +1,93 @@
-//! What stands first in the rest of a line, and what follows it.
+//! The fields of a line, one after the other.
 ghost use Rattle.std.specs.Prelude.{◌≡◌};
-ghost use Rattle.feedtrace_tables.specs.Fields.{Parted, Followed, behind, first_number, first_triple};
-ghost use Rattle.feedtrace_tables.specs.Fields.{first_position, only_number, only_triple};
+ghost use Rattle.feedtrace_tables.specs.Fields.{Parted, alone, first_from, first_number, first_position};
+ghost use Rattle.feedtrace_tables.specs.Fields.{first_signed, first_triple, next_word, behind_word};
+ghost use Rattle.feedtrace_tables.specs.Fields.{position_of};
 
-use crate::line::{split_word, trim_start};
-use crate::number::{MOST_NUMBER, number_of};
-use crate::verb::is_same;
+use crate::number::{MOST_NUMBER, signed_of};
+use console::line::{split_word, trim_start};
+use console::number::number_of;
 use triples::position::Position;
 use triples::triple::Triple;
 
-/// The number that stands first, and what follows it; none where no number up to 4,294,967,295 does.
-pub(crate) fn first_number(text: &[u8]) -> Option<(u32, &[u8])>
-    ensures { Parted result (first_number text.now) }
-{
-    let (word, rest) = split_word(trim_start(text));
-    let number = number_of(word, MOST_NUMBER)?;
-    Some((number, rest))
+/// What is left of a line.
+#[derive(Clone, Copy)]
+pub(crate) struct Fields<'a> {
+    pub(crate) rest: &'a [u8],
 }
 
-/// The three numbers that stand first, as a triple, and what follows them.
-pub(crate) fn first_triple(text: &[u8]) -> Option<(Triple, &[u8])>
-    ensures { Parted result (first_triple text.now) }
-{
-    let (subject, rest) = first_number(text)?;
-    let (property, rest) = first_number(rest)?;
-    let (object, rest) = first_number(rest)?;
-    Some((
-        Triple {
+impl<'a> Fields<'a> {
+    /// The word that stands first.
+    pub(crate) fn word(&mut self) -> &'a [u8]
+        ensures first { result.now ≡ next_word self.old.rest.now }
+        ensures rest { self.new.rest.now ≡ behind_word self.old.rest.now }
+    {
+        let (word, rest) = split_word(trim_start(self.rest));
+        self.rest = rest;
+        word
+    }
+
+    /// The number that stands first; none where no number up to 4,294,967,295 does.
+    pub(crate) fn number(&mut self) -> Option<u32>
+        ensures { Parted result self.new.rest.now (first_number self.old.rest.now) }
+    {
+        number_of(self.word(), MOST_NUMBER)
+    }
+
+    /// The number with its sign that stands first; none where none of 32 bits does.
+    pub(crate) fn signed(&mut self) -> Option<i32>
+        ensures { Parted result self.new.rest.now (first_signed self.old.rest.now) }
+    {
+        signed_of(self.word())
+    }
+
+    /// The three numbers that stand first, as a triple.
+    pub(crate) fn triple(&mut self) -> Option<Triple>
+        ensures { Parted result self.new.rest.now (first_triple self.old.rest.now) }
+    {
+        let subject = self.number()?;
+        let property = self.number()?;
+        let object = self.number()?;
+        Some(Triple {
             subject,
             property,
             object,
-        },
-        rest,
-    ))
-}
+        })
+    }
 
-/// The position whose name stands first, and what follows it.
-pub(crate) fn first_position(text: &[u8]) -> Option<(Position, &[u8])>
-    ensures { Parted result (first_position text.now) }
-{
-    let (word, rest) = split_word(trim_start(text));
-    if is_same(word, b"subject") {
-        Some((Position::Subject, rest))
-    } else if is_same(word, b"property") {
-        Some((Position::Property, rest))
-    } else if is_same(word, b"object") {
-        Some((Position::Object, rest))
-    } else {
-        None
+    /// The position whose name stands first.
+    pub(crate) fn position(&mut self) -> Option<Position>
+        ensures { Parted result self.new.rest.now (first_position self.old.rest.now) }
+    {
+        position_of(self.word())
+    }
+
+    /// The word `from`, if it stands first.
+    pub(crate) fn from(&mut self) -> Option<()>
+        ensures { Parted result self.new.rest.now (first_from self.old.rest.now) }
+    {
+        match self.word() {
+            b"from" => Some(()),
+            _ => None,
+        }
+    }
+
+    /// The value, if nothing is left.
+    pub(crate) fn end<T: Drop>(self, value: T) -> Option<T>
+        ensures { result ≡ alone value self.entry.rest.now }
+    {
+        self.rest.is_empty().then_some(value)
     }
 }
 
-/// What follows the name, if it stands first.
-pub(crate) fn after_name<'a>(text: &'a [u8], name: &[u8]) -> Option<&'a [u8]>
-    ensures { Followed result (behind name.now text.now) }
+/// The position that the word names.
+fn position_of(word: &[u8]) -> Option<Position>
+    ensures { result ≡ position_of word.now }
 {
-    let (word, rest) = split_word(trim_start(text));
-    if is_same(word, name) {
-        Some(rest)
-    } else {
-        None
+    match word {
+        b"subject" => Some(Position::Subject),
+        b"property" => Some(Position::Property),
+        b"object" => Some(Position::Object),
+        _ => None,
     }
-}
-
-/// The number, if nothing follows it.
-pub(crate) fn only_number(text: &[u8]) -> Option<u32>
-    ensures { result ≡ only_number text.now }
-{
-    let (number, rest) = first_number(text)?;
-    if rest.is_empty() { Some(number) } else { None }
-}
-
-/// The triple, if nothing follows it.
-pub(crate) fn only_triple(text: &[u8]) -> Option<Triple>
-    ensures { result ≡ only_triple text.now }
-{
-    let (triple, rest) = first_triple(text)?;
-    if rest.is_empty() { Some(triple) } else { None }
 }

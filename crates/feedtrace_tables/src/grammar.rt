@@ -1,22 +1,43 @@
 //! The forms of tasks.
 ghost use Rattle.std.specs.Prelude.{◌≡◌};
-ghost use Rattle.feedtrace_tables.specs.Forms.{catalogue_form, inverse_form, withdrawn_form, seek_form};
-ghost use Rattle.feedtrace_tables.specs.Forms.{leap_form};
-ghost use Rattle.feedtrace_tables.specs.Forms.{selector_of, task_form, question_form};
+ghost use Rattle.feedtrace_tables.specs.Fields.{Parted};
+ghost use Rattle.feedtrace_tables.specs.Forms.{catalogue_form, catalogue_of, inverse_form, leap_form};
+ghost use Rattle.feedtrace_tables.specs.Forms.{seek_form, selector_of, task_asked, task_fields, task_form};
 
-use crate::field::{
-    after_name, first_number, first_position, first_triple, only_number, only_triple,
-};
-use crate::line::trim_start;
+use crate::expected::Expected;
+use crate::field::Fields;
 use crate::task::Task;
-use crate::verb::{Verb, is_same};
+use crate::verb::Verb;
+use console::line::split_word;
 use triples::selector::{ANY, Selector};
 use triples::triple::Triple;
 
-/// The word before a start or a bound.
-const FROM: &[u8] = b"from";
+impl Task {
+    /// The task that the text asks; none where its first word is no task's. An error where what follows the
+    /// word has another form than the task's.
+    pub(crate) fn parse(text: &[u8]) -> Result<Option<Task>, Expected>
+        ensures { result ≡ task_asked text.now }
+    {
+        let (word, rest) = split_word(text);
+        let Some(verb) = Verb::of(word) else {
+            return Ok(None);
+        };
+        let task = Task::of(verb, rest).ok_or(Expected::Form(verb))?;
+        Ok(Some(task))
+    }
+
+    /// The task that the word and what follows it are; none where it has another form.
+    fn of(verb: Verb, text: &[u8]) -> Option<Task>
+        ensures { result ≡ task_form verb text.now }
+    {
+        let mut fields = Fields { rest: text };
+        let task = fields.task(verb)?;
+        fields.end(task)
+    }
+}
 
 /// The selector with the numbers of the triple as its entries.
+// Kept as a function: both types are another crate's, so no `From` can stand here.
 fn selector(triple: Triple) -> Selector
     ensures { result ≡ selector_of triple }
 {
@@ -27,90 +48,72 @@ fn selector(triple: Triple) -> Selector
     }
 }
 
-/// The task that the word and what follows it are; none where it has another form.
-pub(crate) fn task_of(verb: Verb, text: &[u8]) -> Option<Task>
-    ensures { result ≡ task_form verb text.now }
+/// The beginning of the kind of catalogue that the word names.
+fn catalogue_of(word: &[u8]) -> Option<Task>
+    ensures { result ≡ catalogue_of word.now }
 {
-    match verb {
-        Verb::RowStore => Some(Task::RowStore(only_number(text)?)),
-        Verb::PropertyStore => Some(Task::PropertyStore(only_number(text)?)),
-        Verb::Catalogue => catalogue(text),
-        Verb::Inverse => inverse(text),
-        Verb::Withdrawn => withdrawn(text),
-        Verb::Withdraw => Some(Task::Withdraw(only_triple(text)?)),
-        Verb::Restore => Some(Task::Restore(only_triple(text)?)),
-        _ => question(verb, text),
-    }
-}
-
-/// The question that the word and what follows it are; none where it has another form.
-fn question(verb: Verb, text: &[u8]) -> Option<Task>
-    ensures { result ≡ question_form verb text.now }
-{
-    match verb {
-        Verb::Seek => seek(text),
-        Verb::Leap => leap(text),
-        Verb::Lookup => Some(Task::Lookup(only_number(text)?)),
-        Verb::Scan => Some(Task::Scan(selector(only_triple(text)?))),
-        Verb::Trace => Some(Task::Trace(only_number(text)?)),
+    match word {
+        b"inline" => Some(Task::InlineCatalogue),
+        b"listed" => Some(Task::ListedCatalogue),
         _ => None,
     }
 }
 
-/// The kind of catalogue that is named.
-fn catalogue(text: &[u8]) -> Option<Task>
-    ensures { result ≡ catalogue_form text.now }
-{
-    let name = trim_start(text);
-    if is_same(name, b"inline") {
-        Some(Task::InlineCatalogue)
-    } else if is_same(name, b"listed") {
-        Some(Task::ListedCatalogue)
-    } else {
-        None
+impl Fields<'_> {
+    /// The task of the word, as far as its form goes.
+    fn task(&mut self, verb: Verb) -> Option<Task>
+        ensures { Parted result self.new.rest.now (task_fields verb self.old.rest.now) }
+    {
+        match verb {
+            Verb::RowStore => Some(Task::RowStore(self.number()?)),
+            Verb::PropertyStore => Some(Task::PropertyStore(self.number()?)),
+            Verb::Catalogue => self.catalogue(),
+            Verb::Inverse => self.inverse(),
+            Verb::Withdrawn => Some(Task::Withdrawn),
+            Verb::Withdraw => Some(Task::Withdraw(self.triple()?)),
+            Verb::Restore => Some(Task::Restore(self.triple()?)),
+            Verb::Seek => self.seek(),
+            Verb::Leap => self.leap(),
+            Verb::Lookup => Some(Task::Lookup(self.number()?)),
+            Verb::Scan => Some(Task::Scan(selector(self.triple()?))),
+            Verb::Trace => Some(Task::Trace(self.number()?)),
+        }
     }
-}
 
-/// The inverse layer of two properties.
-fn inverse(text: &[u8]) -> Option<Task>
-    ensures { result ≡ inverse_form text.now }
-{
-    let (property, rest) = first_number(text)?;
-    let inverse = only_number(rest)?;
-    Some(Task::Inverse(property, inverse))
-}
-
-/// The withdrawn layer, if nothing follows the word.
-fn withdrawn(text: &[u8]) -> Option<Task>
-    ensures { result ≡ withdrawn_form text.now }
-{
-    match text {
-        [] => Some(Task::Withdrawn),
-        _ => None,
+    /// The kind of catalogue that is named.
+    fn catalogue(&mut self) -> Option<Task>
+        ensures { Parted result self.new.rest.now (catalogue_form self.old.rest.now) }
+    {
+        catalogue_of(self.word())
     }
-}
 
-/// The seeking by a selector from a start.
-fn seek(text: &[u8]) -> Option<Task>
-    ensures { result ≡ seek_form text.now }
-{
-    let (wanted, rest) = first_triple(text)?;
-    let rest = after_name(rest, FROM)?;
-    let start = only_triple(rest)?;
-    Some(Task::Seek(selector(wanted), start))
-}
+    /// The inverse layer of two properties.
+    fn inverse(&mut self) -> Option<Task>
+        ensures { Parted result self.new.rest.now (inverse_form self.old.rest.now) }
+    {
+        let property = self.number()?;
+        let inverse = self.number()?;
+        Some(Task::Inverse(property, inverse))
+    }
 
-/// The leap at a position, by a selector with 0 there, from a bound.
-fn leap(text: &[u8]) -> Option<Task>
-    ensures { result ≡ leap_form text.now }
-{
-    let (position, rest) = first_position(text)?;
-    let (wanted, rest) = first_triple(rest)?;
-    let rest = after_name(rest, FROM)?;
-    let bound = only_number(rest)?;
-    if wanted.value(position) == ANY {
-        Some(Task::Leap(position, selector(wanted), bound))
-    } else {
-        None
+    /// The seeking by a selector from a start.
+    fn seek(&mut self) -> Option<Task>
+        ensures { Parted result self.new.rest.now (seek_form self.old.rest.now) }
+    {
+        let wanted = self.triple()?;
+        self.from()?;
+        let start = self.triple()?;
+        Some(Task::Seek(selector(wanted), start))
+    }
+
+    /// The leap at a position, by a selector with 0 there, from a bound.
+    fn leap(&mut self) -> Option<Task>
+        ensures { Parted result self.new.rest.now (leap_form self.old.rest.now) }
+    {
+        let position = self.position()?;
+        let wanted = self.triple()?;
+        self.from()?;
+        let bound = self.number()?;
+        (wanted.value(position) == ANY).then_some(Task::Leap(position, selector(wanted), bound))
     }
 }

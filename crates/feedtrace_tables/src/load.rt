@@ -1,15 +1,16 @@
 //! Making stores and catalogues of the tables that were read.
+ghost use Rattle.std.specs.Prelude.{◌≡◌};
 ghost use Rattle.feedtrace_tables.specs.Drafts.{draft_of};
 ghost use Rattle.feedtrace_tables.specs.Drafts as drafts;
+ghost use Rattle.feedtrace_tables.specs.Layerings.{bare};
 ghost use Rattle.feedtrace_tables.specs.Loads.{Loaded};
 
-use crate::answer::Answer;
-use crate::book::Book;
-use crate::layered::Layered;
+use crate::current::{Table, bare};
+use crate::either::Either;
+use crate::failure::Failure;
 use crate::loading::Lists;
 use crate::outcome::Outcome;
 use crate::session::Session;
-use crate::table::Table;
 use catalogue::listed::Listed;
 use catalogue::record::Record;
 use triples::property_store::{PropertyStore, PropertyTable};
@@ -17,8 +18,8 @@ use triples::row_store::RowStore;
 use triples::triple::Triple;
 
 impl Session {
-    /// The table becomes the current store or catalogue, or its refusal is answered and all is as it was.
-    pub(crate) fn load(&mut self, lists: Lists) -> Answer
+    /// The table becomes the current store or catalogue, or it is refused and all is as it was.
+    pub(crate) fn load(&mut self, lists: Lists) -> Result<Outcome, Failure>
         ensures { Loaded (draft_of lists) self.old result self.new }
     {
         match lists {
@@ -28,47 +29,47 @@ impl Session {
         }
     }
 
+    /// The table becomes the current store, without layers.
+    fn put(&mut self, table: Table)
+        ensures { self.new ≡ record self.old { store = Some (bare table) } }
+    {
+        self.store = Some(bare(table));
+    }
+
     /// The rows become the current store.
-    fn load_rows(&mut self, top: u32, rows: Vec<Triple>) -> Answer
+    // Kept as three: each kind of table has its own loader, place and counts.
+    fn load_rows(&mut self, top: u32, rows: Vec<Triple>) -> Result<Outcome, Failure>
         ensures { Loaded (drafts.rows top rows.items) self.old result self.new }
     {
-        let count = rows.len();
-        match RowStore::load(top, rows) {
-            Ok(store) => {
-                self.store = Some(Layered::Plain(Table::Rows(store)));
-                Answer::Task(Outcome::Rows(top, count))
-            }
-            Err(declined) => Answer::Refused(declined.rejection),
-        }
+        let triples = rows.len();
+        let store = RowStore::load(top, rows)?;
+        self.put(Either::Left(store));
+        Ok(Outcome::Rows { top, triples })
     }
 
     /// The directory and the pairs become the current store.
-    fn load_properties(&mut self, top: u32, table: PropertyTable) -> Answer
+    fn load_properties(&mut self, top: u32, table: PropertyTable) -> Result<Outcome, Failure>
         ensures { Loaded (drafts.properties top table.directory.items table.pairs.items)
             self.old result self.new }
     {
         let properties = table.directory.len();
         let pairs = table.pairs.len();
-        match PropertyStore::load(top, table) {
-            Ok(store) => {
-                self.store = Some(Layered::Plain(Table::Properties(store)));
-                Answer::Task(Outcome::Properties(top, properties, pairs))
-            }
-            Err(declined) => Answer::Refused(declined.rejection),
-        }
+        let store = PropertyStore::load(top, table)?;
+        self.put(Either::Right(store));
+        Ok(Outcome::Properties {
+            top,
+            properties,
+            pairs,
+        })
     }
 
     /// The records become the current catalogue.
-    fn load_records(&mut self, records: Vec<Record>) -> Answer
+    fn load_records(&mut self, records: Vec<Record>) -> Result<Outcome, Failure>
         ensures { Loaded (drafts.records records.items) self.old result self.new }
     {
         let count = records.len();
-        match Listed::load(records) {
-            Ok(catalogue) => {
-                self.book = Book::Listed(catalogue);
-                Answer::Task(Outcome::Listed(count))
-            }
-            Err(declined) => Answer::Refused(declined.rejection),
-        }
+        let catalogue = Listed::load(records)?;
+        self.book = Either::Right(catalogue);
+        Ok(Outcome::Listed(count))
     }
 }

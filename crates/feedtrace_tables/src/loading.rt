@@ -12,11 +12,10 @@ pub(crate) enum Lists {
     Records(Vec<Record>),
 }
 
-/// A table that is being read: its lists so far, what was expected where a line was wrong, and how many lines
-/// there were.
+/// A table that is being read: its lists so far, or what was expected where a line was wrong; and how many
+/// lines there were.
 #[derive(Drop)]
 pub(crate) struct Loading {
-    pub(crate) lists: Lists,
-    pub(crate) wrong: Option<Expected>,
+    pub(crate) lists: Result<Lists, Expected>,
     pub(crate) lines: u64,
 }

@@ -3,35 +3,29 @@
 
 mod answer;
 mod ask;
-mod book;
 mod carry;
 mod change;
-mod command;
+mod current;
+mod either;
 mod expected;
+mod failure;
 mod field;
-mod filter;
-mod form;
 mod grammar;
 mod lay;
-mod layered;
-mod line;
-mod listing;
 mod load;
 mod loading;
 mod number;
 mod outcome;
 mod read_line;
-mod reply;
 mod session;
-mod step;
-mod table;
 mod table_line;
 mod table_step;
 mod task;
 mod told;
-mod triple;
 mod verb;
 
+use answer::Answer;
+use outcome::Outcome;
 use session::Session;
 use std::io::{BufRead, BufReader};
 
@@ -41,8 +35,12 @@ fn run(rt: &HostRuntime) -> anyhow::Result<()> {
     let mut session = Session::new();
     for line in BufReader::new(heap, rt.stdin())?.split(heap, b'\n') {
         let line = line?;
-        let answer = session.answer(heap, line.as_slice());
-        rt.print(session.reply(&answer))?;
+        match session.answer(heap, line.as_slice()) {
+            Ok(Some(Answer::Query(answer))) => rt.print(session.queries.reply(&answer))?,
+            Ok(Some(Answer::Task(Outcome::Begun)) | None) => {}
+            Ok(Some(Answer::Task(outcome))) => rt.println(outcome)?,
+            Err(failure) => rt.println(failure)?,
+        }
         if let Some(lines) = session.progress() {
             eprintln!(rt; "{lines} lines of the table read")?;
         }

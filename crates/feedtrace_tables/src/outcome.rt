@@ -8,15 +8,25 @@ pub enum Outcome {
     /// A table's lines begin.
     Begun,
     /// A row store is current: its top, and how many triples it has.
-    Rows(u32, usize),
+    Rows {
+        top: u32,
+        triples: usize,
+    },
     /// A property store is current: its top, how many properties it has, and how many pairs.
-    Properties(u32, usize, usize),
+    Properties {
+        top: u32,
+        properties: usize,
+        pairs: usize,
+    },
     /// The inline catalogue is current.
     Inline,
     /// A listed catalogue of so many records is current.
     Listed(usize),
     /// An inverse layer of the two properties is on top.
-    Inverse(u32, u32),
+    Inverse {
+        property: u32,
+        inverse: u32,
+    },
     /// A withdrawn layer is on top, with nothing withdrawn.
     Layered,
     /// So many triples are withdrawn.
@@ -26,7 +36,10 @@ pub enum Outcome {
     /// The number that was asked for, if there is one.
     Number(Option<u32>),
     /// Kind and value of a number.
-    Entry(Kind, i32),
+    Entry {
+        kind: Kind,
+        value: i32,
+    },
     /// The triples that match.
     Triples(Vec<Triple>),
     /// The terms reached.

@@ -3,13 +3,11 @@ ghost use Rattle.feedtrace_tables.specs.Drafts.{pending_of};
 ghost use Rattle.feedtrace_tables.specs.Lines.{Ended, Finished, ReadInto, TableLine};
 
 use crate::answer::Answer;
-use crate::line::split_word;
+use crate::failure::Failure;
 use crate::loading::Loading;
+use crate::outcome::Outcome;
 use crate::session::Session;
-use crate::verb::{is_absent, is_same};
-
-/// The line behind the last one of a table.
-const END: &[u8] = b"end";
+use console::line::{is_absent, split_word};
 
 /// How many lines of a table there are between two remarks on how far it is.
 const REMARK_EVERY: u64 = 100_000;
@@ -17,61 +15,51 @@ const REMARK_EVERY: u64 = 100_000;
 impl Session {
     /// How many lines of the table are read, at each hundred thousandth; none elsewhere.
     pub(crate) fn progress(&self) -> Option<u64> {
-        match &self.loading {
-            Some(loading) if loading.lines > 0 && loading.lines % REMARK_EVERY == 0 => Some(
-                loading.lines,
-            ),
-            _ => None,
-        }
+        let lines = self.loading.as_ref()?.lines;
+        (lines > 0 && lines % REMARK_EVERY == 0).then_some(lines)
     }
 
-    /// Answers a line of the table that is being read.
-    pub(crate) fn table_line(&mut self, text: &[u8]) -> Answer
+    /// Answers a line of the table that is being read; nothing where it is only read.
+    pub(crate) fn table_line(&mut self, text: &[u8]) -> Result<Option<Answer>, Failure>
         ensures { TableLine text.now self.old result self.new }
     {
         let (word, _) = split_word(text);
         if is_absent(word) {
-            return Answer::Nothing;
+            return Ok(None);
         }
-        if is_same(text, END) {
-            return self.finish();
+        match text {
+            b"end" => self.finish(),
+            _ => {
+                self.read_line(text);
+                Ok(None)
+            }
         }
-        self.read_line(text)
     }
 
     /// Reads a line into the table that is being read.
-    fn read_line(&mut self, text: &[u8]) -> Answer
-        ensures { ReadInto text.now self.old result self.new }
+    fn read_line(&mut self, text: &[u8])
+        ensures { ReadInto text.now self.old self.new }
     {
-        match &mut self.loading {
-            Some(loading) => loading.read(text),
-            None => {}
+        if let Some(loading) = &mut self.loading {
+            loading.read(text);
         }
-        Answer::Nothing
     }
 
     /// Ends the table that is being read.
-    fn finish(&mut self) -> Answer
+    fn finish(&mut self) -> Result<Option<Answer>, Failure>
         ensures { Finished self.old result self.new }
     {
         match self.loading.take() {
-            Some(loading) => self.end(loading),
-            None => Answer::Nothing,
+            Some(loading) => Ok(Some(Answer::Task(self.end(loading)?))),
+            None => Ok(None),
         }
     }
 
     /// The end of the table: it is loaded, or one of its lines was wrong.
-    fn end(&mut self, table: Loading) -> Answer
+    fn end(&mut self, table: Loading) -> Result<Outcome, Failure>
         ensures { Ended (pending_of table) self.old result self.new }
     {
-        let Loading {
-            lists,
-            wrong,
-            lines: _,
-        } = table;
-        match wrong {
-            Some(expected) => Answer::Error(expected),
-            None => self.load(lists),
-        }
+        let Loading { lists, lines: _ } = table;
+        self.load(lists?)
     }
 }

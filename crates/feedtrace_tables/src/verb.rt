@@ -1,22 +1,13 @@
-//! What the first word of a line says.
+//! What the first word of a line says of tables and layers.
 ghost use Rattle.std.specs.Prelude.{◌≡◌};
-ghost use Rattle.std.specs.Str.{bytes_eq};
-ghost use Rattle.feedtrace_tables.specs.Words.{absent, verb_of, table_verb, question_verb};
+ghost use Rattle.feedtrace_tables.specs.Verbs.{verb_of};
 
-/// What a remark begins with.
-const REMARK: u8 = b'#';
+use std::fmt;
+use std::fmt::{Formatter, Write};
 
-/// What the first word of a line says.
+/// What the first word of a line says of tables and layers. It shows as the command with what follows it.
 #[derive(Clone, Copy)]
-pub(crate) enum Verb {
-    /// There is no word, or it begins a remark.
-    Absent,
-    /// The word `query`.
-    Query,
-    /// The word `write`.
-    Write,
-    /// The word `show`.
-    Show,
+pub enum Verb {
     /// The word `row-store`.
     RowStore,
     /// The word `property-store`.
@@ -41,84 +32,47 @@ pub(crate) enum Verb {
     Scan,
     /// The word `trace`.
     Trace,
-    /// Any other word.
-    Other,
 }
 
 impl Verb {
-    /// What the word says.
-    pub(crate) fn of(word: &[u8]) -> Verb
+    /// What the word says; none where it says nothing of tables and layers.
+    pub(crate) fn of(word: &[u8]) -> Option<Verb>
         ensures { result ≡ verb_of word.now }
     {
-        if is_absent(word) {
-            Verb::Absent
-        } else if is_same(word, b"query") {
-            Verb::Query
-        } else if is_same(word, b"write") {
-            Verb::Write
-        } else if is_same(word, b"show") {
-            Verb::Show
-        } else {
-            Verb::of_table(word)
-        }
-    }
-
-    /// What the word says of tables and layers.
-    fn of_table(word: &[u8]) -> Verb
-        ensures { result ≡ table_verb word.now }
-    {
-        if is_same(word, b"row-store") {
-            Verb::RowStore
-        } else if is_same(word, b"property-store") {
-            Verb::PropertyStore
-        } else if is_same(word, b"catalogue") {
-            Verb::Catalogue
-        } else if is_same(word, b"inverse") {
-            Verb::Inverse
-        } else if is_same(word, b"withdrawn") {
-            Verb::Withdrawn
-        } else if is_same(word, b"withdraw") {
-            Verb::Withdraw
-        } else if is_same(word, b"restore") {
-            Verb::Restore
-        } else {
-            Verb::of_question(word)
-        }
-    }
-
-    /// What the word asks of the store or the catalogue.
-    fn of_question(word: &[u8]) -> Verb
-        ensures { result ≡ question_verb word.now }
-    {
-        if is_same(word, b"seek") {
-            Verb::Seek
-        } else if is_same(word, b"leap") {
-            Verb::Leap
-        } else if is_same(word, b"lookup") {
-            Verb::Lookup
-        } else if is_same(word, b"scan") {
-            Verb::Scan
-        } else if is_same(word, b"trace") {
-            Verb::Trace
-        } else {
-            Verb::Other
+        match word {
+            b"row-store" => Some(Verb::RowStore),
+            b"property-store" => Some(Verb::PropertyStore),
+            b"catalogue" => Some(Verb::Catalogue),
+            b"inverse" => Some(Verb::Inverse),
+            b"withdrawn" => Some(Verb::Withdrawn),
+            b"withdraw" => Some(Verb::Withdraw),
+            b"restore" => Some(Verb::Restore),
+            b"seek" => Some(Verb::Seek),
+            b"leap" => Some(Verb::Leap),
+            b"lookup" => Some(Verb::Lookup),
+            b"scan" => Some(Verb::Scan),
+            b"trace" => Some(Verb::Trace),
+            _ => None,
         }
     }
 }
 
-/// Whether there is no word, or it begins a remark.
-pub(crate) fn is_absent(word: &[u8]) -> bool
-    ensures { result ≡ absent word.now }
-{
-    match word {
-        [] => true,
-        [first, ..] => *first == REMARK,
+impl fmt::Display for Verb {
+    fn fmt<W: Write>(&self, f: &mut Formatter<W>) -> fmt::Result {
+        f.write_str(match self {
+            Verb::RowStore => "row-store T",
+            Verb::PropertyStore => "property-store T",
+            Verb::Catalogue => "catalogue inline, or catalogue listed",
+            Verb::Inverse => "inverse P Q",
+            Verb::Withdrawn => "withdrawn",
+            Verb::Withdraw => "withdraw S P O",
+            Verb::Restore => "restore S P O",
+            Verb::Seek => "seek A B C from S P O",
+            Verb::Leap =>
+                "leap subject, property or object, then A B C from N, with 0 at that place",
+            Verb::Lookup => "lookup N",
+            Verb::Scan => "scan A B C",
+            Verb::Trace => "trace N",
+        })
     }
-}
-
-/// Whether the word is that name.
-pub(crate) fn is_same(word: &[u8], name: &[u8]) -> bool
-    ensures { result ≡ bytes_eq word.now name.now }
-{
-    word == name
 }

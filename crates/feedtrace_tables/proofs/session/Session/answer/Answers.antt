@@ -1,16 +1,32 @@
-use Rattle.std.proofs.Common.{◌≡◌, false, is_some, Some, None, Option, sym, MatchOption}
-use Rattle.std.proofs.lemmas.Bool.{true≢false}
+-- The line asks the task that is carried out.
+use Rattle.std.proofs.Common.{◌≡◌, false, is_some, Ok, Some, None, Option, Result, refl, sym, ap, ◌∙◌}
+use Rattle.std.proofs.Common.{MatchOption}
+use Rattle.feedtrace_tables.specs.declared.answer.Answer.TheVariants as answer
+use Rattle.feedtrace_tables.specs.declared.expected.Expected.{Expected}
+use Rattle.feedtrace_tables.specs.declared.task.Task.{Task}
+use Rattle.feedtrace_tables.specs.Forms.{task_asked}
 use Rattle.feedtrace_tables.specs.Lines.{TableLine}
-use Rattle.feedtrace_tables.specs.Words.{trimmed}
+use Rattle.console.specs.Words.{trimmed}
 use Rattle.feedtrace_tables.proofs.session.Session.answer.Goals as goal
 
-cases_none : {A : Type 0} (o : Option A) {P : Type 0} (Q : A → Type 0) → false ≡ is_some o → P → MatchOption o P Q
-cases_none None Q e p = p
-cases_none (Some x) Q e p = absurd (true≢false (sym e))
+-- what was asked, if anything was
+abbrev found : Option Task → Result (Option Task) Expected
+found m = Ok m
 
-pub returns-else-is_some : goal.returns-else-is_some
-returns-else-is_some c =
-    cases_none c.args.self.now.loading
-    (λ _. TableLine (trimmed c.args.line.now) c.args.self.now c.step.result
-    c.step.new.self)
-    c.if-is_some.ensures (c.parse.result, (c.parse.ensures, c.step.ensures))
+-- what holds where there is no value
+MatchOption-at_no : {A : Type 0} (o : Option A) {P : Type 0} (Q : A → Type 0) → false ≡ is_some o → P
+    → MatchOption o P Q
+MatchOption-at_no None Q none p = p
+MatchOption-at_no (Some x) Q none p = cc
+
+pub returns-in_ok-carry_out-in-Some : goal.returns-in_ok-carry_out-in-Some
+returns-in_ok-carry_out-in-Some c =
+    let line = c.args.line.now in
+    let outcome = c.in_ok-carry_out-in-Some.field-0 in
+    let asks : task_asked (trimmed line) ≡ Ok (Some c.in-Some.task) =
+    ap task_asked (sym c.trim-2.ensures) ∙ sym c.parse.ensures ∙ c.in_ok-task.was
+    ∙ ap found c.in-Some.is in
+    MatchOption-at_no c.args.self.now.loading
+    (λ _. TableLine (trimmed line) c.args.self.now (Ok (Some (answer.Task outcome))) c.carry_out.new.self)
+    c.if-is_some.ensures
+    (rw asks (Ok outcome, (refl, c.in_ok-carry_out-in-Some.ensures)))

@@ -4,19 +4,18 @@ use Rattle.triples.specs.declared.entry.DirectoryEntry.{DirectoryEntry}
 use Rattle.triples.specs.declared.pair.Pair.{Pair}
 use Rattle.triples.specs.Directory.{table_triples}
 use Rattle.triples.specs.Meaning.{listed}
-use Rattle.feedtrace_tables.specs.declared.answer.Answer.TheVariants.{Task}
-use Rattle.feedtrace_tables.specs.declared.outcome.Outcome.TheVariants.{Properties}
 use Rattle.feedtrace_tables.proofs.session.Session.load_properties.Goals as goal
 
-pub returns-in-Ok : goal.returns-in-Ok
-returns-in-Ok c =
-    let made = c.in-Ok.ensures in
-    let store = c.in-Ok.store in
+pub returns : goal.returns
+returns c =
+    let made = c.in_ok-store.ensures in
+    let store = c.in_ok-store.store in
     let entries : c.len-properties.result ≡ length (vec_items c.args.table.directory) = search rules in
     let count : c.len-pairs.result ≡ length (vec_items c.args.table.pairs) = search rules in
-    inl (
+    rw (c.put.ensures, entries, count)
+    (inl (
       made.0,
-      ap₂ (λ (d n : ℕ). Task (Properties c.args.top d n)) entries count,
+      refl,
       (
         store,
         (
@@ -27,5 +26,5 @@ returns-in-Ok c =
               (table_triples (vec_items d) (vec_items v))) made.2 made.3,
         ),
       ),
-      record { query = refl; book = refl; loading = refl },
-    )
+      record { queries = refl; book = refl; loading = refl },
+    ))
