@@ -9,6 +9,7 @@ use crate::number::number_of;
 use hex_text::parse;
 use std::alloc::Global;
 
+// Kept as an enum that a session matches on: a line is read whole before its command is carried out.
 /// What a line asks.
 #[derive(Drop)]
 pub enum Command {

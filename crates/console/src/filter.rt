@@ -53,6 +53,14 @@ fn put_whole<W: Write>(nodes: &[Node], f: &mut Formatter<W>) -> fmt::Result {
     }
 }
 
+/// What stands between the two nodes that a node names.
+fn sign_of(node: Node) -> &'static str {
+    match node {
+        Node::And(_, _) => " && ",
+        _ => " || ",
+    }
+}
+
 /// Writes the expression of the last node, with the nodes that it names in their places.
 #[cycle(expression)]
 fn put_expression<W: Write>(nodes: &[Node], f: &mut Formatter<W>) -> fmt::Result {
@@ -64,17 +72,10 @@ fn put_expression<W: Write>(nodes: &[Node], f: &mut Formatter<W>) -> fmt::Result
             f.write_char('!')?;
             put_operand(below, a, f)
         }
-        Node::And(a, b) => {
+        Node::And(a, b) | Node::Or(a, b) => {
             f.write_char('(')?;
             put_operand(below, a, f)?;
-            f.write_str(" && ")?;
-            put_operand(below, b, f)?;
-            f.write_char(')')
-        }
-        Node::Or(a, b) => {
-            f.write_char('(')?;
-            put_operand(below, a, f)?;
-            f.write_str(" || ")?;
+            f.write_str(sign_of(*node))?;
             put_operand(below, b, f)?;
             f.write_char(')')
         }

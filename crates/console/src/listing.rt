@@ -31,6 +31,7 @@ impl fmt::Display for Listing<'_> {
     }
 }
 
+// Kept as functions: each writes with what stands before its lines, which a `Display` is not given.
 /// Writes alternatives in braces of their own, with `UNION` between.
 fn put_union<W: Write>(alternatives: &[Alternative], f: &mut Formatter<W>) -> fmt::Result {
     for (i, alternative) in alternatives.iter().enumerate() {

@@ -18,6 +18,7 @@ pub(crate) enum Either<A, B> {
     Right(B),
 }
 
+// Kept written out: each method is another call, which one closure for both kinds could not be.
 impl<A: Store, B: Store> Store for Either<A, B> {
     ghost meaning = { either_of A.Store.meaning B.Store.meaning };
 

@@ -11,6 +11,7 @@ use layers::withdrawn::Withdrawn;
 use refusal::declined::Declined;
 use triples::triple::Triple;
 
+// Kept written out: a closure for `withdraw` or `restore` would have to bring what each promises of the layer.
 impl Layered {
     /// Puts an inverse layer over the table; another layering is left as it is.
     pub(crate) fn under_inverse(

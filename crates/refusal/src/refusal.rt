@@ -50,6 +50,7 @@ pub enum Refusal {
     BufferShort = 34,
 }
 
+// Kept as a method: callers name it, and `From` beside it would say the same twice.
 impl Refusal {
     /// The published number of the refusal.
     pub fn number(self) -> u32
