@@ -17,7 +17,7 @@ use Rattle.layers.proofs.Withdrawals.{Passed, passed_from, passed_found, passed_
 module _ {S : Type 0} (meaning : S → Meaning) (first : Matches S) (m : Meaning) (gone : List Triple)
     (selector : Selector) (start : Triple) where
   -- s goes over the store of first, which means m, and what is sought before the start of s is among gone
-  pub record Walked (s : Matches S) : Type 0 where
+  record Walked (s : Matches S) : Type 0 where
     pub reference : s.store.ghost_name ≡ first.store.ghost_name
     pub same : meaning s.store.now ≡ m
     pub wanted : s.selector ≡ selector
@@ -29,8 +29,8 @@ module _ {S : Type 0} (meaning : S → Meaning) (first : Matches S) (m : Meaning
   sought {s} {r = r} w a =
       subst₂ (λ (n : Meaning) k. Sought n.has k s.start r) w.same w.wanted a.answer
 
-  walked_more : {s t : Matches S} {x : Triple} → among gone x ≡ true → Walked s → Advances meaning s (Some x) t
-      → Walked t
+  walked_more : {s t : Matches S} {x : Triple} → among gone x ≡ true → Walked s
+      → Advances meaning s (Some x) t → Walked t
   walked_more {s} {t} {x} away w a = record {
     reference = a.reference ∙ w.reference;
     same = a.same ∙ w.same;
@@ -47,9 +47,10 @@ module _ {S : Type 0} (meaning : S → Meaning) (first : Matches S) (m : Meaning
 
   -- f answers whether a triple is not among gone, and stays as it is
   module _ {F : Type 0} (calls : Mut F (Bor Triple × Unit {0}) Bool) (f : F)
-      (k : (x : Triple) (b : Bool) (q : F) → CalledAt calls f x b q → (q ≡ f) × (b ≡ not (among gone x))) where
-    walked_all : (xs : List Triple) {s t : Matches S} {p q : F} → p ≡ f → Walked s → Yields (Advances meaning) s xs t
-        → FoldsTo (λ u x v. CalledAt calls u x false v) p xs q → Walked t × (q ≡ f)
+      (k : (x : Triple) (b : Bool) (q : F)
+      → CalledAt calls f x b q → (q ≡ f) × (b ≡ not (among gone x))) where
+    walked_all : (xs : List Triple) {s t : Matches S} {p q : F} → p ≡ f → Walked s
+        → Yields (Advances meaning) s xs t → FoldsTo (λ u x v. CalledAt calls u x false v) p xs q → Walked t × (q ≡ f)
     walked_all [] e w y o = (subst Walked y w, sym o ∙ e)
     walked_all (x ∷ xs) e w (_, step, more) (v, call, others) =
         let c = k x false v (subst (λ u. CalledAt calls u x false v) e call) in
