@@ -1,7 +1,7 @@
 -- Each object is noted, one met before only by its mark.
 use Rattle.trace.proofs.Marks.{noted_met, noted_new}
 use Rattle.trace.specs.Marks.{Noted}
-use Rattle.std.proofs.Common.{◌≡◌, ℕ, Bool, List, vec_items, sym, refl, ap, ◌∙◌, subst, arith, rules}
+use Rattle.std.proofs.Common.{◌≡◌, ℕ, Bool, List, vec_items, sym, refl, ◌∙◌, subst, arith, rules}
 use Rattle.triples.specs.declared.triple.Triple.{Triple}
 use Rattle.triples.specs.Seeks.{Least}
 use Rattle.triples.proofs.Seeks.{origin}
@@ -12,14 +12,11 @@ use Rattle.trace.proofs.visit.visit.Given.{Over}
 use Rattle.trace.proofs.visit.visit.Goals.{In-Some}
 use Rattle.trace.proofs.visit.visit.Goals as goal
 
-pub returns-then-term-eq-ANY : goal.returns-then-term-eq-ANY
-returns-then-term-eq-ANY g c =
+pub returns-then-term-eq-ANY-clause-answer : goal.returns-then-term-eq-ANY-clause-answer
+returns-then-term-eq-ANY-clause-answer g c =
     let first = c.args.store.now in
-    record {
-      answer = visited_zero (g.S.Store.meaning first) (g.S.Store.sound first) c.if-term-eq-ANY.true
-          c.args.seen.now (vec_items c.args.found.now);
-      same = refl;
-    }
+    visited_zero (g.S.Store.meaning first) (g.S.Store.sound first) c.if-term-eq-ANY.true c.args.seen.now
+    (vec_items c.args.found.now)
 
 pub loop-triple-init : goal.loop-triple-init
 loop-triple-init g c =
@@ -84,7 +81,7 @@ loop-triple-preserved-in-Continue-1 g c =
       step.reference ∙ i.0,
       step.same ∙ i.1,
       step.selector ∙ i.2,
-      going g (goal.at.loop-triple-preserved-in-Continue-1 g c).In-Some
+      going g (goal.at.loop-triple-preserved-in-Continue-1 g c).In-Some {more = vec_items c.push.new.self}
           (noted_new c.in-Some.triple.object c.loop-triple.seen (vec_items c.loop-triple.found)
           old.after old.value c.if-first_met.true c.in_ok-push.ensures.items),
     )
