@@ -15,7 +15,7 @@ use Rattle.triples.specs.Order.{before, same}
 use Rattle.triples.specs.Selectors.{select}
 use Rattle.triples.specs.Succession.{behind}
 use Rattle.triples.specs.Seeks.{Candidate, Least, Sought, Offer, Lowest, Leapt}
-use Rattle.triples.proofs.Order.{upto_trans, same_is}
+use Rattle.triples.proofs.Order.{before_itself, upto_trans, same_is}
 use Rattle.triples.proofs.Ranks.{behind_reached, upto_behind}
 use Rattle.triples.proofs.Seeks.{origin}
 use Rattle.triples.proofs.Selectors.{select-matches, select_value, origin_reached}
@@ -73,6 +73,15 @@ module _ (m : Meaning) (gone : List Triple) (s : Selector) (start from : Triple)
     fit = c.fit;
     reached = p.none u c;
   }
+
+  pub passed_from : from ≡ start → Passed
+  passed_from e = record {
+    onward = ap (λ t. before t start) e ∙ before_itself start;
+    none = λ u c. ap (before u) e ∙ c.reached;
+  }
+
+  pub passed_all : Passed → Sought m.has s from None → Sought (without m gone).has s start None
+  passed_all p end u c = end u (candidate_below p u c)
 
   pub passed_found : Passed → (t : Triple) → Least m.has s from t → among gone t ≡ false
       → Least (without m gone).has s start t

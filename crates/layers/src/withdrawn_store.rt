@@ -4,6 +4,7 @@ ghost use Rattle.layers.specs.Soundness.{sound_without};
 ghost use Rattle.layers.specs.Withdrawals.{without};
 
 use crate::withdrawn::Withdrawn;
+use triples::matches::Matches;
 use triples::position::Position;
 use triples::selector::Selector;
 use triples::store::Store;
@@ -20,22 +21,16 @@ impl<S: Store> Store for Withdrawn<S> {
         self.below.top()
     }
 
-    /// Asks the store below again behind each withdrawn triple that it answers.
+    /// The first match of the store below that is not withdrawn.
     fn seek(&mut self, selector: Selector, start: Triple) -> Option<Triple> {
-        let mut from = start;
-        // Kept: no triple between the start and this one is an answer.
-        while let Some(found) = self.below.seek(selector, from) {
-            if !self.gone.has(found) {
-                return Some(found);
-            }
-            from = found.behind();
-        }
-        None
+        let gone = &self.gone;
+        Matches::new(&mut self.below, selector, start).find(|t| !gone.has(*t))
     }
 
     /// Asks the store below again behind each number of which all triples are withdrawn.
     fn leap(&mut self, position: Position, selector: Selector, bound: u32) -> Option<u32> {
         let mut from = bound;
+        // Kept as a loop: each turn seeks in the whole layer, which an iterator would hold borrowed.
         // Kept: no number between the bound and this one is an answer.
         while let Some(number) = self.below.leap(position, selector, from) {
             if self.seek(selector.with(position, number), ORIGIN).is_some() {

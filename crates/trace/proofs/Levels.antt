@@ -17,7 +17,7 @@ use Rattle.triples.proofs.Ranks.{before_behind, before_behind_upto, same_from_be
 use Rattle.triples.proofs.Selectors.{origin_reached}
 use Rattle.triples.proofs.Seeks.{origin}
 use Rattle.trace.specs.Levels.{From, Visited, Level}
-use Rattle.trace.specs.Marks.{unmarked, Noted, Gathered}
+use Rattle.trace.specs.Marks.{Noted, Gathered}
 use Rattle.trace.specs.Steps.{Step}
 use Rattle.trace.proofs.Marks.{gathered_like, gathered_more, gathered_shuffled}
 
@@ -169,12 +169,6 @@ module _ {has : Triple → Bool} (front : List ℕ) {old new : List Bool} {found
         (subst (λ (ys : List ℕ). Gathered (From has ys) old new found) (take_all i front h) g) s;
     rising = up;
   }
-
--- the numbers that are not marked, counted together with the last level, become fewer
-pub level_fewer : {has : Triple → Bool} {front next : List ℕ} {old new after : List Bool}
-    → Level has front old new next → after ≡ new → (length front ≡ 0 → ⊥)
-    → unmarked after + length next < unmarked old + length front
-level_fewer l e some = let fewer = l.gathered.fewer in let same = ap unmarked e in omega arith
 
 pub visited_like : {m n : Meaning} → m ≡ n → {term : ℕ} {marks after : List Bool} {found more : List ℕ}
     → Visited m.has term marks found after more → Visited n.has term marks found after more

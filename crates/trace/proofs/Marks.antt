@@ -35,6 +35,26 @@ unmarked-set marks y l h =
     let one = ap {B = ℕ} (λ b. cond (not b) 1 0) h in
     omega (arith, e, one)
 
+-- a number noted, by what its mark was before
+
+module _ (y : ℕ) (marks : List Bool) (found : List ℕ) {before now : Bool} (is : now ≡ true)
+    (was : before ≡ marked marks y) where
+  noted_mark : set marks y now ≡ set marks y true
+  noted_mark = ap (set marks y) is
+
+  pub noted_met : before ≡ true → Noted y marks found (set marks y now) found
+  noted_met h = record {
+    mark = noted_mark;
+    list = sym (cond-true (marked marks y) found (found ++ y ∷ []) (sym was ∙ h));
+  }
+
+  pub noted_new : before ≡ false → {more : List ℕ} → more ≡ found ++ y ∷ []
+      → Noted y marks found (set marks y now) more
+  noted_new h e = record {
+    mark = noted_mark;
+    list = e ∙ sym (cond-false (marked marks y) found (found ++ y ∷ []) (sym was ∙ h));
+  }
+
 -- what is gathered
 
 module _ {P : ℕ → Type 0} {old new : List Bool} {xs : List ℕ} (g : Gathered P old new xs) where

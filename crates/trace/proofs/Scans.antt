@@ -1,21 +1,19 @@
 -- A scan that goes from one match to the next loses none. Assumes nothing.
-use Rattle.std.proofs.Common.{◌≡◌, ◌+◌, ◌<◌, Bool, true, false, List, [], ◌∷◌, ◌++◌, length, sym, ◌∙◌, subst}
+use Rattle.std.proofs.Common.{◌≡◌, ◌+◌, ◌<◌, Bool, true, false, List, [], ◌∷◌, ◌++◌, length, sym}
 use Rattle.std.proofs.Common.{subst₂, ⊎_elim, arith}
 use Rattle.std.proofs.ByRecursion.{All-get_or, All-push, All-weaker}
 use Rattle.std.proofs.lemmas.List.{length_push, get_or_append_left, get_or_push}
-use Rattle.std.proofs.lemmas.Bool.{false≢true, true≢false, cases_Bool, cases_lt, or_cases, or_left, or_right}
+use Rattle.std.proofs.lemmas.Bool.{false≢true, cases_Bool, cases_lt, or_cases, or_left, or_right}
 use Rattle.std.specs.List.{AllByRecursion}
 use Rattle.triples.specs.declared.selector.Selector.{Selector}
 use Rattle.triples.specs.declared.triple.Triple.{Triple}
 use Rattle.triples.specs.Meaning.{among}
 use Rattle.triples.specs.Order.{before, same}
-use Rattle.triples.specs.Seeks.{Candidate, Least}
+use Rattle.triples.specs.Seeks.{Least}
 use Rattle.triples.specs.Succession.{behind}
 use Rattle.triples.proofs.Ranks.{before_behind, before_behind_upto, same_from_behind}
 use Rattle.triples.proofs.Order.{before_upto}
-use Rattle.triples.proofs.Seeks.{origin}
-use Rattle.triples.proofs.Selectors.{origin_reached}
-use Rattle.trace.specs.Scans.{Match, Ascending, Scanned}
+use Rattle.trace.specs.Scans.{Match, Ascending}
 
 -- among
 
@@ -55,15 +53,6 @@ module _ (has : Triple → Bool) (selector : Selector) where
     pub below : AllByRecursion (λ t. before t start ≡ true) xs
     pub all : (t : Triple) → Match has selector t → before t start ≡ true → among xs t ≡ true
 
-  pub scanned_none : {xs : List Triple} → xs ≡ [] → ScannedTo origin xs
-  scanned_none e =
-      subst (ScannedTo origin) (sym e) (record {
-        ascending = λ k d h. absurd (omega arith);
-        each = tt;
-        below = tt;
-        all = λ t m h. absurd (true≢false (sym h ∙ origin_reached t));
-      })
-
   scanned_push : (start t : Triple) (xs : List Triple) → Least has selector start t → ScannedTo start xs
       → ScannedTo (behind t) (xs ++ t ∷ [])
   scanned_push start t xs l s = record {
@@ -83,13 +72,3 @@ module _ (has : Triple → Bool) (selector : Selector) where
       → next ≡ behind t → ys ≡ xs ++ t ∷ [] → ScannedTo start xs → ScannedTo next ys
   scanned_more {start} {t} {xs = xs} l e f s =
       subst₂ ScannedTo (sym e) (sym f) (scanned_push start t xs l s)
-
-  pub scanned_all : {start : Triple} {xs : List Triple} → ((t : Triple) → Candidate has selector start t → ⊥)
-      → ScannedTo start xs → Scanned has selector xs
-  scanned_all {start} end s = record {
-    ascending = s.ascending;
-    each = s.each;
-    all = λ t m. ⊎_elim (s.all t m)
-        (λ k. absurd (end t (record { held = m.held; fit = m.fit; reached = k })))
-        (cases_Bool (before t start));
-  }

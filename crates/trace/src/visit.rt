@@ -1,26 +1,13 @@
 //! The terms one step from a term.
 ghost use Rattle.std.specs.Prelude.{◌≡◌, ◌<◌, length, IfOk};
 ghost use Rattle.trace.specs.Levels.{Visited};
-ghost use Rattle.trace.specs.Marks.{Noted};
 
 use std::alloc::AllocError;
+use std::mem;
 use triples::matches::Matches;
 use triples::selector::{ANY, Selector};
 use triples::store::Store;
 use triples::triple::ORIGIN;
-
-/// Marks the term as seen, and puts it behind those found unless it was seen before.
-fn note(term: u32, seen: &mut [bool], found: &mut Vec<u32>) -> Result<(), AllocError>
-    requires { term < length seen.old }
-    ensures { IfOk result (λ _. Noted term seen.old found.old.items seen.new found.new.items) }
-{
-    let place = term as usize;
-    if !seen[place] {
-        seen[place] = true;
-        found.push(term)?;
-    }
-    Ok(())
-}
 
 /// Puts the terms one step from `term` that are not seen yet behind those found, each once, and marks them.
 pub(crate) fn visit<S: Store>(
@@ -44,7 +31,10 @@ pub(crate) fn visit<S: Store>(
         object: ANY,
     };
     for triple in Matches::new(store, selector, ORIGIN) {
-        note(triple.object, seen, found)?;
+        let first_met = !mem::replace(&mut seen[triple.object as usize], true);
+        if first_met {
+            found.push(triple.object)?;
+        }
     }
     Ok(())
 }

@@ -12,12 +12,8 @@ loop-term-preserved g c = (
       c.loop-term.invariant.1,
 )
 
-pub returns : goal.returns
-returns g c =
+pub returns-clause-answer : goal.returns-clause-answer
+returns-clause-answer g c =
     let sorted = vec_items c.sort_unstable.new.self in
-    record {
-      answer = level_all c.args.front.now c.loop-term-test.false c.sort_unstable.ensures.permutation
-          (IsNonDecreasingBy-from_sort (λ x. x) sorted c.sort_unstable.ensures.sorted)
-          c.loop-term.invariant.1;
-      same = c.loop-term.invariant.0;
-    }
+    level_all c.args.front.now c.loop-term-test.false c.sort_unstable.ensures.permutation
+    (IsNonDecreasingBy-from_sort (λ x. x) sorted c.sort_unstable.ensures.sorted) c.loop-term.invariant.1

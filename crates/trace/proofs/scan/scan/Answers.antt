@@ -1,5 +1,5 @@
 -- Each triple goes behind those found before it.
-use Rattle.std.proofs.Common.{◌∙◌}
+use Rattle.std.proofs.Common.{vec_items, ◌∙◌}
 use Rattle.trace.proofs.Scans.{scanned_more}
 use Rattle.trace.proofs.Seeks.{least_of}
 use Rattle.trace.proofs.scan.scan.Goals as goal
@@ -12,6 +12,6 @@ loop-triple-preserved g c =
       step.reference ∙ i.0,
       step.same ∙ i.1,
       step.selector ∙ i.2,
-      scanned_more (g.S.Store.meaning first.store.now).has first.selector (least_of i.1 i.2 step.answer)
-          step.start c.in_ok-push.ensures.items i.3,
+      scanned_more (g.S.Store.meaning first.store.now).has first.selector {ys = vec_items c.push.new.self}
+          (least_of i.1 i.2 step.answer) step.start c.in_ok-push.ensures.items i.3,
     )

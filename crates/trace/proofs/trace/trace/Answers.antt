@@ -1,14 +1,12 @@
 -- Each level goes behind those before it and marks its terms; past an empty one nothing is reached.
 use Rattle.std.proofs.Common.{◌≡◌, ℕ, ◌+◌, List, ◌++◌, length, vec_items, sym, refl, ap, ◌∙◌, subst, arith}
-use Rattle.std.proofs.Common.{rules}
 use Rattle.std.proofs.lemmas.List.{nil_from_length, with_items_is}
-use Rattle.std.proofs.lemmas.Result.{IfOk-from_err}
-use Rattle.std.proofs.lemmas.Bool.{eqb-true, eqb-false}
+use Rattle.std.proofs.lemmas.Bool.{eqb-true}
 use Rattle.std.specs.Vec.{with_items}
 use Rattle.triples.specs.Meaning.{Meaning}
 use Rattle.trace.specs.Levels.{Level}
 use Rattle.trace.specs.Steps.{Traced}
-use Rattle.trace.proofs.Levels.{level_fewer, level_like}
+use Rattle.trace.proofs.Levels.{level_like}
 use Rattle.trace.proofs.Steps.{layers_none, layers_more, layers_all}
 use Rattle.trace.proofs.trace.trace.Given.{Over}
 use Rattle.trace.proofs.trace.trace.Goals.{In_ok-extend_from_slice}
@@ -26,18 +24,6 @@ levels-init g c =
           (made.items_if_clones_equal (λ y e. e)),
     )
 
-pub level-requires : goal.level-requires
-level-requires g c =
-    omega (
-      arith,
-      ap (λ (m : Meaning). m.top) c.levels.invariant.0,
-      c.levels.invariant.1,
-      ap length c.as_mut_slice.ensures.value,
-    )
-
-pub returns-in_err-front-2 : goal.returns-in_err-front-2
-returns-in_err-front-2 g c = search (rules, IfOk-from_err)
-
 -- the marks after a level, as the trace holds them
 marks_after : (g : Over) (c : In_ok-extend_from_slice g)
     → (with_items c.levels.seen c.level.new.seen).items ≡ c.level.new.seen
@@ -53,12 +39,6 @@ levelled g c =
     level_like c.levels.invariant.0 c.as_slice.ensures.value c.as_mut_slice.ensures.value
     c.in_ok-front-2.ensures.answer
 
-pub levels-smaller : goal.levels-smaller
-levels-smaller g c =
-    let some = eqb-false _ _ (sym c.levels-test.ensures) in
-    let long = c.levels.front.ok.0 in
-    level_fewer (levelled g c) (marks_after g c) (omega (arith, some, long))
-
 pub levels-preserved : goal.levels-preserved
 levels-preserved g c =
     let reached = vec_items c.levels.reached in
@@ -72,22 +52,15 @@ levels-preserved g c =
         ap length c.as_mut_slice.ensures.value,
       ),
       layers_more (g.S.Store.meaning c.top.new.self).has c.args.term (levelled g c)
-          (c.in_ok-extend_from_slice.ensures.items ∙ ap (λ (xs : List ℕ). reached ++ xs) slice)
+          (subst (λ (xs : List ℕ). vec_items c.extend_from_slice.new.self ≡ reached ++ xs) slice
+          c.in_ok-extend_from_slice.ensures.items)
           (marks_after g c) c.levels.invariant.2,
     )
 
-pub returns-in_err-extend_from_slice : goal.returns-in_err-extend_from_slice
-returns-in_err-extend_from_slice g c = search (rules, IfOk-from_err)
-
-pub returns : goal.returns
-returns g c =
+pub returns-clause-answer : goal.returns-clause-answer
+returns-clause-answer g c =
     let none = eqb-true _ _ (sym c.levels-test.ensures) in
     let long = c.levels.front.ok.0 in
     let empty = nil_from_length (vec_items c.levels.front) (omega (arith, none, long)) in
-    record {
-      answer = subst (λ (m : Meaning). Traced m.has c.args.term (vec_items c.levels.reached))
-          c.top.ensures.same
-          (layers_all (g.S.Store.meaning c.top.new.self).has c.args.term empty
-          c.levels.invariant.2);
-      same = c.levels.invariant.0 ∙ c.top.ensures.same;
-    }
+    subst (λ (m : Meaning). Traced m.has c.args.term (vec_items c.levels.reached)) c.top.ensures.same
+    (layers_all (g.S.Store.meaning c.top.new.self).has c.args.term empty c.levels.invariant.2)

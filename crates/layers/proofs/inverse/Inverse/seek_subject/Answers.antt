@@ -1,5 +1,5 @@
 -- The least object of a subject gives the least turned triple of that subject.
-use Rattle.std.proofs.Common.{sym, subst}
+use Rattle.std.proofs.Common.{Some, sym, subst}
 use Rattle.triples.specs.Seeks.{Sought, Least}
 use Rattle.layers.specs.declared.turn.Turn.{Turn}
 use Rattle.layers.specs.Turning.{turned_of}
@@ -13,7 +13,7 @@ returns-in_err-object-clause-answer g c =
     (sym c.from_residual-in_err-object.ensures)
     (sought_object_none (g.S.Store.meaning layer.below) layer.turn.property layer.turn.inverse
     c.args.selector c.in_ok-swapped.swapped layer.turn.known (sym c.in_ok-swapped.ensures.answer)
-    c.args.start c.requires c.in_ok-bound.bound (sym c.in_ok-bound.ensures) c.asked.ensures.same.below
+    c.args.start c.requires c.in_ok-bound.bound (sym {a = Some c.in_ok-bound.bound} c.in_ok-bound.ensures) c.asked.ensures.same.below
     c.in_err-object.ensures.answer)
 
 pub returns-clause-answer : goal.returns-clause-answer
@@ -25,5 +25,5 @@ returns-clause-answer g c =
     (sym c.asked.ensures.same.turn)
     (sought_object (g.S.Store.meaning layer.below) layer.turn.property layer.turn.inverse
     c.args.selector c.in_ok-swapped.swapped layer.turn.known (sym c.in_ok-swapped.ensures.answer)
-    c.args.start c.requires c.in_ok-bound.bound (sym c.in_ok-bound.ensures) c.asked.ensures.same.below
+    c.args.start c.requires c.in_ok-bound.bound (sym {a = Some c.in_ok-bound.bound} c.in_ok-bound.ensures) c.asked.ensures.same.below
     c.in_ok-object.object c.in_ok-object.ensures.answer)

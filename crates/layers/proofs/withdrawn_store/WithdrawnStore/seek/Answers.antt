@@ -1,53 +1,30 @@
--- An answer of the store below that is withdrawn is passed, another is the answer.
-use Rattle.std.proofs.Common.{◌≡◌, true, false, sym, ◌∙◌, subst}
-use Rattle.triples.specs.Meaning.{Meaning, among}
-use Rattle.triples.specs.Seeks.{Least}
-use Rattle.triples.proofs.Ranks.{next_behind, ahead_less}
+-- The match found is the first that is not withdrawn.
+use Rattle.std.proofs.Common.{ap, sym, ◌∙◌, rules, tests}
+use Rattle.triples.specs.Meaning.{Meaning}
 use Rattle.layers.specs.Members.{members}
-use Rattle.layers.proofs.Withdrawals.{Passed, passed_found, passed_more, same_without}
+use Rattle.layers.specs.Withdrawals.{without}
+use Rattle.layers.proofs.Searches.{Found, found}
 use Rattle.layers.proofs.withdrawn_store.WithdrawnStore.seek.Given.{Over}
-use Rattle.layers.proofs.withdrawn_store.WithdrawnStore.seek.Goals.{In-Some}
+use Rattle.layers.proofs.withdrawn_store.WithdrawnStore.seek.Goals.{After-find}
 use Rattle.layers.proofs.withdrawn_store.WithdrawnStore.seek.Goals as goal
 
--- what the store below answered, of its meaning as it was at first
-least : (g : Over) (c : goal.In-Some g)
-    → Least (g.S.Store.meaning c.args.self.now.below).has c.args.selector c.loop-found.from
-    c.in-Some.found
-least g c =
-    subst (λ (m : Meaning). Least m.has c.args.selector c.loop-found.from c.in-Some.found)
-    c.loop-found.invariant.0 c.in-Some.ensures.answer
+-- what the search found among the matches of the store below
+searched : (g : Over) (c : After-find g)
+    → Found g.S.Store.meaning c.new.result (g.S.Store.meaning c.args.self.now.below)
+    (members c.args.self.now.gone) c.args.selector c.args.start c.find.result c.find.new.self
+searched g c =
+    found g.S.Store.meaning _ _ _ _ _ _ _ (λ x b q k. search (rules, tests))
+    (ap g.S.Store.meaning c.new.ensures.store) c.new.ensures.selector c.new.ensures.start c.find.ensures.ran
 
-pub returns-then-not-has : goal.returns-then-not-has
-returns-then-not-has g c =
-    let m = g.S.Store.meaning c.args.self.now.below in
-    let gone = members c.args.self.now.gone in
-    let i = c.loop-found.invariant in
-    record {
-      answer = passed_found m gone c.args.selector c.args.start c.loop-found.from i.2
-          c.in-Some.found (least g (goal.at.returns-then-not-has g c).In-Some)
-          (subst (λ gs. among gs c.in-Some.found ≡ false) i.1 (sym c.if-not-has.ensures));
-      same = same_without _ m _ gone (c.seek.ensures.same ∙ i.0) i.1;
-    }
+pub shape_of-self : goal.shape_of-self
+shape_of-self g c =
+    let it = searched g (goal.at.shape_of-self g c).After-find in
+    sym (it.reference ∙ c.new.ensures.same_reference)
 
-pub loop-found-smaller : goal.loop-found-smaller
-loop-found-smaller g c =
-    let below = c.loop-found.self.below in
-    ahead_less (g.S.Store.meaning below) (g.S.Store.sound below) c.in-Some.ensures.answer.candidate
-    c.behind-from.ensures
+pub returns-clause-answer : goal.returns-clause-answer
+returns-clause-answer g c = (searched g (goal.at.returns-clause-answer g c).After-find).answer
 
-pub loop-found-preserved : goal.loop-found-preserved
-loop-found-preserved g c =
-    let below = c.loop-found.self.below in
-    let m = g.S.Store.meaning c.args.self.now.below in
-    let gone = members c.args.self.now.gone in
-    let i = c.loop-found.invariant in
-    let t = c.in-Some.found in (
-      c.seek.ensures.same ∙ i.0,
-      i.1,
-      subst (Passed m gone c.args.selector c.args.start)
-          (sym (next_behind (g.S.Store.meaning below) (g.S.Store.sound below)
-          c.in-Some.ensures.answer.candidate c.behind-from.ensures))
-          (passed_more m gone c.args.selector c.args.start c.loop-found.from t i.2
-          (least g (goal.at.loop-found-preserved g c).In-Some)
-          (subst (λ gs. among gs t ≡ true) i.1 (sym c.if-not-has.ensures))),
-    )
+pub returns-clause-same : goal.returns-clause-same
+returns-clause-same g c =
+    ap (λ (m : Meaning). without m (members c.args.self.now.gone))
+    (searched g (goal.at.returns-clause-same g c).After-find).same
