@@ -38,6 +38,7 @@ fn leaps_agree<A: Store, B: Store>(one: &mut A, other: &mut B, selector: Selecto
     true
 }
 
+// Kept beside the loops of `triples_tests`: those ask a plain list, which must not be a store itself.
 /// Fails under the name, unless both answer the same for every selector and have the same top.
 pub(crate) fn agree<A: Store, B: Store>(
     name: &str,

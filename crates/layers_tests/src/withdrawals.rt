@@ -18,7 +18,8 @@ enum Call {
     Restore,
 }
 
-/// A call with a triple, the number of its refusal and the place, none where it is done, and the count after it.
+/// A call with a triple, the number of its refusal and the place, none where it is done, and the count after
+/// it.
 struct Step {
     name: &'static str,
     call: Call,

@@ -297,8 +297,8 @@ const PAIRS: [Case; 14] = [
     },
 ];
 
-/// Fails under a case's name, unless each table is taken or refused as it says, and comes back as it was where
-/// it is refused.
+/// Fails under a case's name, unless each table is taken or refused as it says, and comes back as it was
+/// where it is refused.
 fn cases_hold(rt: &impl Abort, heap: Global, cases: &[Case]) -> Result<(), Fail> {
     for case in cases {
         let given = table(heap, case.directory, case.pairs)?;
