@@ -1,13 +1,10 @@
 //! Two stores that answer the same, whatever is asked.
-use crate::stores::{number_of, numbers_of};
 use std::test::Fail;
+use store_cases::numbers::NUMBERS;
 use triples::position::Position;
 use triples::selector::Selector;
 use triples::store::Store;
 use triples::triple::Triple;
-
-/// Each term, 0, the number over the top, and the largest: as entries of selectors and starts, and as bounds.
-const NUMBERS: [u32; 8] = [0, 1, 2, 3, 4, 5, 6, 4_294_967_295];
 
 /// Whether both find the same triple, from every start.
 fn seeks_agree<A: Store, B: Store>(one: &mut A, other: &mut B, selector: Selector) -> bool {
@@ -19,8 +16,7 @@ fn seeks_agree<A: Store, B: Store>(one: &mut A, other: &mut B, selector: Selecto
                     property,
                     object,
                 };
-                let found = numbers_of(one.seek(selector, start));
-                if found != numbers_of(other.seek(selector, start)) {
+                if one.seek(selector, start) != other.seek(selector, start) {
                     return false;
                 }
             }
@@ -33,8 +29,8 @@ fn seeks_agree<A: Store, B: Store>(one: &mut A, other: &mut B, selector: Selecto
 fn leaps_agree<A: Store, B: Store>(one: &mut A, other: &mut B, selector: Selector) -> bool {
     for position in [Position::Subject, Position::Property, Position::Object] {
         for bound in NUMBERS {
-            let found = number_of(one.leap(position, selector, bound));
-            if found != number_of(other.leap(position, selector, bound)) {
+            let found = one.leap(position, selector, bound);
+            if found != other.leap(position, selector, bound) {
                 return false;
             }
         }
@@ -42,6 +38,7 @@ fn leaps_agree<A: Store, B: Store>(one: &mut A, other: &mut B, selector: Selecto
     true
 }
 
+// Kept beside the loops of `triples_tests`: those ask a plain list, which must not be a store itself.
 /// Fails under the name, unless both answer the same for every selector and have the same top.
 pub(crate) fn agree<A: Store, B: Store>(
     name: &str,

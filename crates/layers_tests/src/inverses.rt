@@ -1,10 +1,11 @@
 //! The inverse of a property: when it is refused, which triples come with it, and in which order.
 use crate::agreeing::agree;
-use crate::stores::{LIST, number_of, numbers_of, property_store, row_store, triple_of};
+use crate::stores::{property_store, row_store};
 use layers::inverse::Inverse;
 use std::test::Fail;
+use store_cases::lists::LIST;
+use store_cases::numbers::{said, selector_of, triple_of};
 use triples::position::Position;
-use triples::selector::Selector;
 use triples::store::Store;
 
 /// Properties and inverses that are refused under top 5.
@@ -90,26 +91,30 @@ const TURNED: [(&str, u32, u32, &[(u32, u32, u32)]); 5] = [
     ),
 ];
 
-/// Starts with the least triple `s 3 o` from there on, where 3 is the inverse of 4: three 0s for none.
-const SOUGHT: [(&str, (u32, u32, u32), (u32, u32, u32)); 8] = [
-    ("from the least", (0, 0, 0), (1, 3, 2)),
-    ("from a triple that is there", (1, 3, 2), (1, 3, 2)),
-    ("from behind all of a subject", (1, 3, 3), (4, 3, 2)),
-    ("from below the inverse", (4, 2, 5), (4, 3, 2)),
-    ("from a property over the inverse", (4, 4, 0), (5, 3, 1)),
-    ("from a subject without triples", (3, 3, 1), (4, 3, 2)),
-    ("from an object in the middle", (4, 3, 3), (5, 3, 1)),
-    ("from behind the last", (5, 3, 2), (0, 0, 0)),
+/// Starts with the least triple `s 3 o` from there on, where 3 is the inverse of 4: none behind the last.
+const SOUGHT: [(&str, (u32, u32, u32), Option<(u32, u32, u32)>); 8] = [
+    ("from the least", (0, 0, 0), Some((1, 3, 2))),
+    ("from a triple that is there", (1, 3, 2), Some((1, 3, 2))),
+    ("from behind all of a subject", (1, 3, 3), Some((4, 3, 2))),
+    ("from below the inverse", (4, 2, 5), Some((4, 3, 2))),
+    (
+        "from a property over the inverse",
+        (4, 4, 0),
+        Some((5, 3, 1)),
+    ),
+    ("from a subject without triples", (3, 3, 1), Some((4, 3, 2))),
+    ("from an object in the middle", (4, 3, 3), Some((5, 3, 1))),
+    ("from behind the last", (5, 3, 2), None),
 ];
 
-/// Bounds with the least subject and the least object of a triple `s 3 o` from there on: 0 for none.
-const LEAPT: [(u32, u32, u32); 6] = [
-    (0, 1, 1),
-    (1, 1, 1),
-    (2, 4, 2),
-    (3, 4, 0),
-    (5, 5, 0),
-    (6, 0, 0),
+/// Bounds with the least subject and the least object of a triple `s 3 o` from there on, or none.
+const LEAPT: [(u32, Option<u32>, Option<u32>); 6] = [
+    (0, Some(1), Some(1)),
+    (1, Some(1), Some(1)),
+    (2, Some(4), Some(2)),
+    (3, Some(4), None),
+    (5, Some(5), None),
+    (6, None, None),
 ];
 
 #[test]
@@ -120,8 +125,7 @@ fn a_property_that_is_no_term_is_refused_and_the_store_comes_back(
         match Inverse::new(row_store(rt.alloc(), &LIST)?, property, inverse) {
             Ok(_) => return Err(Fail::new(name)),
             Err(declined) => {
-                let refusal = declined.rejection.refusal.number();
-                assert_eq!(rt; (refusal, declined.rejection.place), (25, 0), "{}", name);
+                assert_eq!(rt; said(declined.rejection), (25, 0), "{}", name);
                 let mut given = declined.given;
                 agree(name, &mut given, &mut row_store(rt.alloc(), &LIST)?)?;
             }
@@ -146,28 +150,18 @@ fn turned_triples_are_ordered_by_what_was_the_object(rt: HostRuntime) -> Result<
     let Ok(mut store) = Inverse::new(row_store(rt.alloc(), &LIST)?, 4, 3) else {
         return Err(Fail::new("the inverse was refused"));
     };
-    let selector = Selector {
-        subject: 0,
-        property: 3,
-        object: 0,
-    };
+    let selector = selector_of((0, 3, 0));
     for (name, start, sought) in SOUGHT {
         assert_eq!(rt;
-            numbers_of(store.seek(selector, triple_of(start))),
-            sought,
+            store.seek(selector, triple_of(start)),
+            sought.map(triple_of),
             "{}",
             name
         );
     }
     for (bound, subject, object) in LEAPT {
-        assert_eq!(rt;
-            number_of(store.leap(Position::Subject, selector, bound)),
-            subject
-        );
-        assert_eq!(rt;
-            number_of(store.leap(Position::Object, selector, bound)),
-            object
-        );
+        assert_eq!(rt; store.leap(Position::Subject, selector, bound), subject);
+        assert_eq!(rt; store.leap(Position::Object, selector, bound), object);
     }
     Ok(())
 }

@@ -1,16 +1,25 @@
 //! Layers over layers.
 use crate::agreeing::agree;
-use crate::stores::{LIST, outcome, property_store, row_store, triple_of};
+use crate::stores::{property_store, row_store};
 use layers::inverse::Inverse;
 use layers::withdrawn::Withdrawn;
 use std::test::Fail;
+use store_cases::lists::LIST;
+use store_cases::numbers::{said, triple_of};
 
-/// Triples withdrawn over 3 as the inverse of 4, one after the other, each with its refusal and what is left.
-const WITHDRAWN_OVER_INVERSE: [((u32, u32, u32), u32, &[(u32, u32, u32)]); 3] = [
+/// A triple to withdraw, what the call answers, and what is left.
+type Withdrawal = (
+    (u32, u32, u32),
+    Result<(), (u32, usize)>,
+    &'static [(u32, u32, u32)],
+);
+
+/// Triples withdrawn over 3 as the inverse of 4, one after the other.
+const WITHDRAWN_OVER_INVERSE: [Withdrawal; 3] = [
     // one whose turned triple stays
     (
         (2, 4, 1),
-        0,
+        Ok(()),
         &[
             (1, 2, 1),
             (1, 3, 2),
@@ -25,7 +34,7 @@ const WITHDRAWN_OVER_INVERSE: [((u32, u32, u32), u32, &[(u32, u32, u32)]); 3] = 
     // a turned one, whose triple stays
     (
         (4, 3, 2),
-        0,
+        Ok(()),
         &[
             (1, 2, 1),
             (1, 3, 2),
@@ -39,7 +48,7 @@ const WITHDRAWN_OVER_INVERSE: [((u32, u32, u32), u32, &[(u32, u32, u32)]); 3] = 
     // one that is neither below nor turned
     (
         (3, 3, 2),
-        22,
+        Err((22, 0)),
         &[
             (1, 2, 1),
             (1, 3, 2),
@@ -69,8 +78,8 @@ fn withdrawing_over_an_inverse_leaves_the_turned_triple(rt: HostRuntime) -> Resu
         return Err(Fail::new("the inverse was refused"));
     };
     let mut store = Withdrawn::new(inverse);
-    for (triple, refusal, list) in WITHDRAWN_OVER_INVERSE {
-        assert_eq!(rt; outcome(store.withdraw(triple_of(triple))), (refusal, 0));
+    for (triple, answer, list) in WITHDRAWN_OVER_INVERSE {
+        assert_eq!(rt; store.withdraw(triple_of(triple)).map_err(said), answer);
         agree(
             "over an inverse",
             &mut store,
@@ -90,7 +99,7 @@ fn withdrawing_over_an_inverse_leaves_the_turned_triple(rt: HostRuntime) -> Resu
 #[test]
 fn withdrawing_below_an_inverse_takes_the_turned_triple_too(rt: HostRuntime) -> Result<(), Fail> {
     let mut below = Withdrawn::new(row_store(rt.alloc(), &LIST)?);
-    assert_eq!(rt; outcome(below.withdraw(triple_of((2, 4, 1)))), (0, 0));
+    assert_eq!(rt; below.withdraw(triple_of((2, 4, 1))), Ok(()));
     let Ok(mut store) = Inverse::new(below, 4, 3) else {
         return Err(Fail::new("the inverse was refused"));
     };

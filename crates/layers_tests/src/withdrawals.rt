@@ -1,21 +1,30 @@
 //! Withdrawing and restoring: the refusals in their order, the count, and what is left.
 use crate::agreeing::agree;
-use crate::stores::{LIST, number_of, numbers_of, outcome, row_store, triple_of};
+use crate::stores::row_store;
 use layers::withdrawn::Withdrawn;
 use std::alloc::Global;
 use std::test::Fail;
+use store_cases::lists::LIST;
+use store_cases::numbers::{said, triple_of};
 use triples::position::Position;
 use triples::row_store::RowStore;
 use triples::selector::Selector;
 use triples::store::Store;
 use triples::triple::ORIGIN;
 
-/// A call to withdraw, or to restore, with its refusal, 0 for none, and the count after it.
+/// What is asked of a store with withdrawn triples.
+enum Call {
+    Withdraw,
+    Restore,
+}
+
+/// A call with a triple, the number of its refusal and the place, none where it is done, and the count after
+/// it.
 struct Step {
     name: &'static str,
-    withdraws: bool,
+    call: Call,
     triple: (u32, u32, u32),
-    refusal: u32,
+    refused: Option<(u32, usize)>,
     count: usize,
 }
 
@@ -23,114 +32,114 @@ struct Step {
 const STEPS: [Step; 16] = [
     Step {
         name: "a triple that is not there",
-        withdraws: true,
+        call: Call::Withdraw,
         triple: (2, 4, 2),
-        refusal: 22,
+        refused: Some((22, 0)),
         count: 0,
     },
     Step {
         name: "subject 0",
-        withdraws: true,
+        call: Call::Withdraw,
         triple: (0, 2, 1),
-        refusal: 22,
+        refused: Some((22, 0)),
         count: 0,
     },
     Step {
         name: "property 0",
-        withdraws: true,
+        call: Call::Withdraw,
         triple: (1, 0, 1),
-        refusal: 22,
+        refused: Some((22, 0)),
         count: 0,
     },
     Step {
         name: "object 0",
-        withdraws: true,
+        call: Call::Withdraw,
         triple: (1, 2, 0),
-        refusal: 22,
+        refused: Some((22, 0)),
         count: 0,
     },
     Step {
         name: "three 0s",
-        withdraws: true,
+        call: Call::Withdraw,
         triple: (0, 0, 0),
-        refusal: 22,
+        refused: Some((22, 0)),
         count: 0,
     },
     Step {
         name: "a number over the top",
-        withdraws: true,
+        call: Call::Withdraw,
         triple: (6, 2, 1),
-        refusal: 22,
+        refused: Some((22, 0)),
         count: 0,
     },
     Step {
         name: "nothing to restore",
-        withdraws: false,
+        call: Call::Restore,
         triple: (1, 2, 1),
-        refusal: 24,
+        refused: Some((24, 0)),
         count: 0,
     },
     Step {
         name: "the first",
-        withdraws: true,
+        call: Call::Withdraw,
         triple: (1, 2, 1),
-        refusal: 0,
+        refused: None,
         count: 1,
     },
     Step {
         name: "the first again",
-        withdraws: true,
+        call: Call::Withdraw,
         triple: (1, 2, 1),
-        refusal: 21,
+        refused: Some((21, 0)),
         count: 1,
     },
     Step {
         name: "the last",
-        withdraws: true,
+        call: Call::Withdraw,
         triple: (5, 2, 1),
-        refusal: 0,
+        refused: None,
         count: 2,
     },
     Step {
         name: "one that is not withdrawn",
-        withdraws: false,
+        call: Call::Restore,
         triple: (2, 2, 3),
-        refusal: 24,
+        refused: Some((24, 0)),
         count: 2,
     },
     Step {
         name: "one that is not stored",
-        withdraws: false,
+        call: Call::Restore,
         triple: (0, 0, 0),
-        refusal: 24,
+        refused: Some((24, 0)),
         count: 2,
     },
     Step {
         name: "the first back",
-        withdraws: false,
+        call: Call::Restore,
         triple: (1, 2, 1),
-        refusal: 0,
+        refused: None,
         count: 1,
     },
     Step {
         name: "the first back again",
-        withdraws: false,
+        call: Call::Restore,
         triple: (1, 2, 1),
-        refusal: 24,
+        refused: Some((24, 0)),
         count: 1,
     },
     Step {
         name: "one in the middle",
-        withdraws: true,
+        call: Call::Withdraw,
         triple: (2, 4, 1),
-        refusal: 0,
+        refused: None,
         count: 2,
     },
     Step {
         name: "the last again",
-        withdraws: true,
+        call: Call::Withdraw,
         triple: (5, 2, 1),
-        refusal: 21,
+        refused: Some((21, 0)),
         count: 2,
     },
 ];
@@ -155,58 +164,58 @@ const RESTS: [((u32, u32, u32), &[(u32, u32, u32)]); 6] = [
 const WHEN_FULL: [Step; 8] = [
     Step {
         name: "withdrawn already",
-        withdraws: true,
+        call: Call::Withdraw,
         triple: (256, 1, 1),
-        refusal: 21,
+        refused: Some((21, 0)),
         count: 256,
     },
     Step {
         name: "not stored",
-        withdraws: true,
+        call: Call::Withdraw,
         triple: (258, 1, 1),
-        refusal: 22,
+        refused: Some((22, 0)),
         count: 256,
     },
     Step {
         name: "no room",
-        withdraws: true,
+        call: Call::Withdraw,
         triple: (257, 1, 1),
-        refusal: 23,
+        refused: Some((23, 0)),
         count: 256,
     },
     Step {
         name: "one that is stored back",
-        withdraws: false,
+        call: Call::Restore,
         triple: (257, 1, 1),
-        refusal: 24,
+        refused: Some((24, 0)),
         count: 256,
     },
     Step {
         name: "the first back",
-        withdraws: false,
+        call: Call::Restore,
         triple: (1, 1, 1),
-        refusal: 0,
+        refused: None,
         count: 255,
     },
     Step {
         name: "room for one",
-        withdraws: true,
+        call: Call::Withdraw,
         triple: (257, 1, 1),
-        refusal: 0,
+        refused: None,
         count: 256,
     },
     Step {
         name: "no room again",
-        withdraws: true,
+        call: Call::Withdraw,
         triple: (1, 1, 1),
-        refusal: 23,
+        refused: Some((23, 0)),
         count: 256,
     },
     Step {
         name: "withdrawn at last",
-        withdraws: true,
+        call: Call::Withdraw,
         triple: (257, 1, 1),
-        refusal: 21,
+        refused: Some((21, 0)),
         count: 256,
     },
 ];
@@ -222,12 +231,11 @@ const EVERY: Selector = Selector {
 fn steps_hold(store: &mut Withdrawn<RowStore>, steps: &[Step]) -> Result<(), Fail> {
     for step in steps {
         let triple = triple_of(step.triple);
-        let answer = if step.withdraws {
-            outcome(store.withdraw(triple))
-        } else {
-            outcome(store.restore(triple))
+        let answer = match step.call {
+            Call::Withdraw => store.withdraw(triple),
+            Call::Restore => store.restore(triple),
         };
-        if answer != (step.refusal, 0) || store.count() != step.count {
+        if answer.err().map(said) != step.refused || store.count() != step.count {
             return Err(Fail::new(step.name));
         }
     }
@@ -236,14 +244,10 @@ fn steps_hold(store: &mut Withdrawn<RowStore>, steps: &[Step]) -> Result<(), Fai
 
 /// The subjects from 1 to 257, each with property 1 and object 1.
 fn subjects(heap: Global) -> Result<RowStore, Fail> {
-    let mut rows = Vec::new(heap);
-    for i in 0..257 {
-        rows.push(triple_of((i + 1, 1, 1)))?;
-    }
-    match RowStore::load(300, rows) {
-        Ok(store) => Ok(store),
-        Err(_) => Err(Fail::new("the row store was refused")),
-    }
+    let rows = (1..=257)
+        .map(|subject| triple_of((subject, 1, 1)))
+        .collect(heap)?;
+    RowStore::load(300, rows).map_err(|_| Fail::new("the row store was refused"))
 }
 
 #[test]
@@ -266,7 +270,7 @@ fn calls_answer_as_the_table_says_and_change_no_more_than_that(
 fn seek_and_leap_pass_over_what_is_withdrawn(rt: HostRuntime) -> Result<(), Fail> {
     let mut store = Withdrawn::new(row_store(rt.alloc(), &LIST)?);
     for (triple, rest) in RESTS {
-        assert_eq!(rt; outcome(store.withdraw(triple_of(triple))), (0, 0));
+        assert_eq!(rt; store.withdraw(triple_of(triple)), Ok(()));
         agree("the rest", &mut store, &mut row_store(rt.alloc(), rest)?)?;
     }
     assert_eq!(rt; store.count(), 6);
@@ -276,14 +280,14 @@ fn seek_and_leap_pass_over_what_is_withdrawn(rt: HostRuntime) -> Result<(), Fail
 #[test]
 fn with_256_withdrawn_there_is_no_room_for_one_more(rt: HostRuntime) -> Result<(), Fail> {
     let mut store = Withdrawn::new(subjects(rt.alloc())?);
-    for i in 0..256 {
-        assert_eq!(rt; outcome(store.withdraw(triple_of((i + 1, 1, 1)))), (0, 0));
+    for subject in 1..=256 {
+        assert_eq!(rt; store.withdraw(triple_of((subject, 1, 1))), Ok(()));
     }
     assert_eq!(rt; store.count(), 256);
-    assert_eq!(rt; numbers_of(store.seek(EVERY, ORIGIN)), (257, 1, 1));
-    assert_eq!(rt; number_of(store.leap(Position::Subject, EVERY, 0)), 257);
+    assert_eq!(rt; store.seek(EVERY, ORIGIN), Some(triple_of((257, 1, 1))));
+    assert_eq!(rt; store.leap(Position::Subject, EVERY, 0), Some(257));
     steps_hold(&mut store, &WHEN_FULL)?;
-    assert_eq!(rt; numbers_of(store.seek(EVERY, ORIGIN)), (1, 1, 1));
-    assert_eq!(rt; number_of(store.leap(Position::Subject, EVERY, 2)), 0);
+    assert_eq!(rt; store.seek(EVERY, ORIGIN), Some(triple_of((1, 1, 1))));
+    assert_eq!(rt; store.leap(Position::Subject, EVERY, 2), None);
     Ok(())
 }

@@ -3,7 +3,7 @@ ghost use Rattle.std.specs.Prelude.{◌≡◌};
 ghost use Rattle.refusal.specs.Numbers.{published};
 
 /// Why a call says no. The number behind each case is the published one, and is never used again for another.
-#[derive(Clone, Copy)]
+#[derive(Clone, Copy, Debug, PartialEq, Eq)]
 pub enum Refusal {
     /// A list is longer than its limit, or the top is over 1,000,000. No place.
     OverLimit = 1,

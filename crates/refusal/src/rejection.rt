@@ -8,7 +8,7 @@ use std::fmt::{Formatter, Write};
 
 /// A refusal and its place, counted from 0; the place is 0 where the refusal names none. It shows as the
 /// published number of the refusal, and the place.
-#[derive(Clone, Copy)]
+#[derive(Clone, Copy, Debug, PartialEq, Eq)]
 pub struct Rejection {
     pub refusal: Refusal,
     pub place: usize,

@@ -1,6 +1,6 @@
 -- Laws of directories. Assumes nothing.
-use Rattle.std.proofs.Common.{◌≡◌, ℕ, zero, suc, ◌+◌, ◌-◌, ◌<◌, ◌≤◌, true, false, ◌&&◌, ltb, leb, List, length}
-use Rattle.std.proofs.Common.{HoldsAt, Option, Some, None, MatchOption, Less, Equal, Greater}
+use Rattle.std.proofs.Common.{◌≡◌, ℕ, zero, suc, ◌+◌, ◌-◌, ◌<◌, ◌≤◌, true, false, ◌&&◌, ltb, leb, List}
+use Rattle.std.proofs.Common.{length, HoldsAt, Option, Some, None, MatchOption, Less, Equal, Greater}
 use Rattle.std.proofs.Common.{ap, subst, ⊎_elim, arith}
 use Rattle.std.specs.Ordering.{nat_cmp, ordering_index}
 use Rattle.std.specs.List.Sorted.{IsNonDecreasingBy, IsPartitionPoint}
@@ -10,7 +10,8 @@ use Rattle.std.proofs.lemmas.Bool.Decides.{nat_tests}
 use Rattle.triples.specs.declared.entry.DirectoryEntry.{DirectoryEntry}
 use Rattle.triples.specs.Selectors.{accepts}
 use Rattle.triples.specs.Meaning.{term}
-use Rattle.triples.specs.Directory.{no_entry, property_of, first_of, follows, entry_good, EntriesGood, FirstBroken}
+use Rattle.triples.specs.Directory.{no_entry, property_of, first_of, follows, entry_good}
+use Rattle.triples.specs.Directory.{EntriesGood, FirstBroken}
 use Rattle.triples.specs.Spans.{Spanned}
 
 -- entries in order
@@ -57,9 +58,11 @@ module _ (top : ℕ) (dir : List DirectoryEntry) (pairs : ℕ) (good : EntriesGo
 
   -- the comparisons with a property rise
   rising : (wanted : ℕ) → IsNonDecreasingBy (λ e. ordering_index (nat_cmp e.property wanted)) dir
-  rising wanted = IsNonDecreasingBy-from_default (λ e. ordering_index (nat_cmp e.property wanted)) dir no_entry
+  rising wanted = IsNonDecreasingBy-from_default (λ e. ordering_index (nat_cmp e.property wanted)) dir
+      no_entry
       (λ i j h l. ⊎_elim
-      (λ e. let same = ap (λ k. ordering_index (nat_cmp (property_of dir k) wanted)) e in omega (arith, same))
+      (λ e. let same = ap (λ k. ordering_index (nat_cmp (property_of dir k) wanted)) e in
+      omega (arith, same))
       (λ ne. let less = property_later i j (omega (arith, h, ne)) l in grind (arith, nat_tests))
       (cases_eq i j))
 
@@ -81,14 +84,17 @@ module _ (top : ℕ) (dir : List DirectoryEntry) (pairs : ℕ) (good : EntriesGo
 
     pub spanned_missing : i ≤ length dir
         → (IsNonDecreasingBy (λ e. ordering_index (nat_cmp e.property wanted)) dir
-        → IsPartitionPoint (λ e. nat_cmp e.property wanted ≡ Less) (λ e. nat_cmp e.property wanted ≡ Greater) dir i)
+        → IsPartitionPoint (λ e. nat_cmp e.property wanted ≡ Less)
+        (λ e. nat_cmp e.property wanted ≡ Greater) dir i)
         → Spanned dir wanted (record { start = i; end = i })
     spanned_missing h parted = record {
       upward = omega arith;
       inside = h;
-      before = λ k l. let less = (parted (rising wanted)).0 k no_entry (omega arith) l in grind (arith, nat_tests);
+      before = λ k l. let less = (parted (rising wanted)).0 k no_entry (omega arith) l in
+          grind (arith, nat_tests);
       within = λ k low high. absurd (omega (arith, low, high));
-      behind = λ k low high. let more = (parted (rising wanted)).1 k no_entry low high in grind (arith, nat_tests);
+      behind = λ k low high. let more = (parted (rising wanted)).1 k no_entry low high in
+          grind (arith, nat_tests);
     }
 
 -- the first broken entry

@@ -1,7 +1,8 @@
 -- Answers about sets of triples that are put together from the answers about their parts. Assumes nothing.
 -- Joins s Q best     where Q says what is answered for a set, best of two answers is the one for both sets
-use Rattle.std.proofs.Common.{◌≡◌, ℕ, zero, suc, ◌+◌, ◌-◌, ◌<◌, ◌≤◌, Bool, true, false, List, [], ◌∷◌, ◌++◌, map, get_or}
-use Rattle.std.proofs.Common.{length, Some, None, Option, sym, refl, ap, ◌∙◌, subst, subst₂, arith}
+use Rattle.std.proofs.Common.{◌≡◌, ℕ, zero, suc, ◌+◌, ◌-◌, ◌<◌, ◌≤◌, Bool, true, false}
+use Rattle.std.proofs.Common.{List, [], ◌∷◌, ◌++◌, map, get_or, length, Some, None}
+use Rattle.std.proofs.Common.{Option, sym, refl, ap, ◌∙◌, subst, subst₂, arith}
 use mathlib.Core.Path.{fun_ext}
 use denote.Param.Members.{Mut}
 use Rattle.std.specs.Fn.{Called}
@@ -155,7 +156,8 @@ module _ {R : Type 0} {s : Selector} {Q : (Triple → Bool) → Option R → Typ
 
     module _ {F : Type 0} (g : Mut F (Option R × (ℕ × Unit {0})) (Option R)) (f : F) (from : ℕ) where
       abbrev Begun : List ℕ → List ℕ → Option R → Type 0
-      Begun all ys a = (zs : List ℕ) → ys ++ zs ≡ all → Q (among (triples_upto dir pairs (from + length ys))) a
+      Begun all ys a = (zs : List ℕ) → ys ++ zs ≡ all
+          → Q (among (triples_upto dir pairs (from + length ys))) a
 
       pub join_fold : (Found : ℕ → Option R → Type 0) (to : ℕ) → from ≤ to → to ≤ length dir
           → ((i : ℕ) → i < from → accepts s.property (property_of dir i) ≡ false)

@@ -20,9 +20,6 @@ before_upto t u v h k = grind (arith, nat_tests)
 pub upto_before : (t u : Triple) → before t u ≡ true → before u t ≡ false
 upto_before t u h = grind (arith, nat_tests)
 
-pub same_from_upto : (t u : Triple) → before t u ≡ false → before u t ≡ false → same t u ≡ true
-same_from_upto t u h k = grind (arith, nat_tests)
-
 pub same_itself : (t : Triple) → same t t ≡ true
 same_itself t = grind (arith, nat_tests)
 

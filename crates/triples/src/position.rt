@@ -5,7 +5,7 @@ ghost use Rattle.triples.specs.Order.{value_at, number_from};
 use crate::triple::Triple;
 
 /// One of the three positions of a triple.
-#[derive(Clone, Copy)]
+#[derive(Clone, Copy, Debug, PartialEq, Eq)]
 pub enum Position {
     Subject,
     Property,

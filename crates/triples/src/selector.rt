@@ -10,7 +10,7 @@ pub const ANY: u32 = 0;
 
 /// For each position the number that a triple must have there, or 0 for any.
 // Kept as numbers with 0 for any: this is the published form of a selector.
-#[derive(Clone, Copy)]
+#[derive(Clone, Copy, Debug, PartialEq, Eq)]
 pub struct Selector {
     pub subject: u32,
     pub property: u32,

@@ -18,6 +18,7 @@ fn is_next(directory: &[DirectoryEntry], i: usize) -> bool
     requires { i < length directory.now }
     ensures { result ≡ follows directory.now i }
 {
+    // Kept by index: the first entry has none before it, so a walk over neighbours would leave it out.
     let entry = directory[i];
     if i == 0 {
         return entry.first == 0;
@@ -79,6 +80,7 @@ impl<'a> Table<'a> {
         ensures { MatchOption result (SectionsOrdered self.now.directory.now self.now.pairs.now)
             (Fallen self.now.directory.now self.now.pairs.now) }
     {
+        // Kept as a loop: `find_map` takes one closure within another, to add the entry's first place.
         for (i, entry) in self.directory.iter().enumerate() {
             if let Some(place) = fall(self.pairs_of(i)) {
                 return Some(entry.first as usize + place);

@@ -1,36 +1,29 @@
 //! Lists at their longest, and one longer.
-use crate::lists::says;
 use std::alloc::{AllocError, Global};
 use std::test::Fail;
+use store_cases::numbers::said;
 use triples::entry::DirectoryEntry;
 use triples::pair::Pair;
 use triples::property_store::{PropertyStore, PropertyTable};
 use triples::row_store::RowStore;
-use triples::triple::Triple;
+use triples::triple::{ORIGIN, Triple};
 
 /// Entries of the properties from 1 on, all empty.
 fn empty_entries(heap: Global, count: u32) -> Result<Vec<DirectoryEntry>, AllocError> {
-    let mut directory = Vec::new(heap);
-    for i in 0..count {
-        directory.push(DirectoryEntry {
-            property: i + 1,
-            first: 0,
-        })?;
-    }
-    Ok(directory)
+    (1..=count)
+        .map(|property| DirectoryEntry { property, first: 0 })
+        .collect(heap)
 }
 
 /// Triples of the subjects from 1 on.
 fn ascending_rows(heap: Global, count: u32) -> Result<Vec<Triple>, AllocError> {
-    let mut rows = Vec::new(heap);
-    for i in 0..count {
-        rows.push(Triple {
-            subject: i + 1,
+    (1..=count)
+        .map(|subject| Triple {
+            subject,
             property: 1,
             object: 1,
-        })?;
-    }
-    Ok(rows)
+        })
+        .collect(heap)
 }
 
 #[test]
@@ -39,15 +32,10 @@ fn a_million_rows_are_taken_and_one_more_is_refused(rt: HostRuntime) -> Result<(
         Ok(store) => assert_eq!(rt; store.len(), 1_000_000),
         Err(_) => return Err(Fail::new("a million rows were refused")),
     }
-    let bad = Triple {
-        subject: 0,
-        property: 0,
-        object: 0,
-    };
-    match RowStore::load(1, vec![in rt.alloc(); bad; 1_000_001]?) {
+    match RowStore::load(1, vec![in rt.alloc(); ORIGIN; 1_000_001]?) {
         Ok(_) => Err(Fail::new("a million and one rows were taken")),
         Err(declined) => {
-            assert!(rt; says(declined.rejection, 1, 0));
+            assert_eq!(rt; said(declined.rejection), (1, 0));
             assert_eq!(rt; declined.given.len(), 1_000_001);
             Ok(())
         }
@@ -86,7 +74,7 @@ fn a_million_pairs_are_within_the_limit_and_one_more_is_not(rt: HostRuntime) -> 
         match PropertyStore::load(1, PropertyTable { directory, pairs }) {
             Ok(_) => return Err(Fail::new("bad pairs were taken")),
             Err(declined) => {
-                assert!(rt; says(declined.rejection, number, 0));
+                assert_eq!(rt; said(declined.rejection), (number, 0));
                 assert_eq!(rt; declined.given.pairs.len(), count);
             }
         }
@@ -111,7 +99,7 @@ fn a_directory_of_4096_is_taken_and_one_of_4097_is_refused(rt: HostRuntime) -> R
     match PropertyStore::load(1_000_000, longer) {
         Ok(_) => Err(Fail::new("4,097 entries were taken")),
         Err(declined) => {
-            assert!(rt; says(declined.rejection, 1, 0));
+            assert_eq!(rt; said(declined.rejection), (1, 0));
             assert_eq!(rt; declined.given.directory.len(), 4097);
             Ok(())
         }

@@ -1,20 +1,11 @@
-//! What seek and leap answer by going over a whole list: three 0s, or a 0, where there is no answer.
+//! What seek and leap answer by going over a whole list of plain numbers.
 use triples::position::Position;
-use triples::selector::Selector;
-use triples::triple::Triple;
 
 /// Each position of the triple has the selector's number, or the selector's is 0.
-fn fits(triple: (u32, u32, u32), selector: Selector) -> bool {
-    (selector.subject == 0 || selector.subject == triple.0)
-        && (selector.property == 0 || selector.property == triple.1)
-        && (selector.object == 0 || selector.object == triple.2)
-}
-
-/// The first is below the second: by subject, then property, then object.
-fn is_below(one: (u32, u32, u32), other: (u32, u32, u32)) -> bool {
-    one.0 < other.0
-        || one.0 == other.0 && one.1 < other.1
-        || one.0 == other.0 && one.1 == other.1 && one.2 < other.2
+fn fits(triple: (u32, u32, u32), selector: (u32, u32, u32)) -> bool {
+    (selector.0 == 0 || selector.0 == triple.0)
+        && (selector.1 == 0 || selector.1 == triple.1)
+        && (selector.2 == 0 || selector.2 == triple.2)
 }
 
 /// The number at the position.
@@ -29,32 +20,25 @@ fn number_at(triple: (u32, u32, u32), position: Position) -> u32 {
 /// The least triple of the list that matches and is not below the start.
 pub(crate) fn least(
     list: &[(u32, u32, u32)],
-    selector: Selector,
-    start: Triple,
-) -> (u32, u32, u32) {
-    let mut least = (0, 0, 0);
-    for triple in list {
-        let reached = !is_below(*triple, (start.subject, start.property, start.object));
-        if fits(*triple, selector) && reached && (least.0 == 0 || is_below(*triple, least)) {
-            least = *triple;
-        }
-    }
-    least
+    selector: (u32, u32, u32),
+    start: (u32, u32, u32),
+) -> Option<(u32, u32, u32)> {
+    list.iter()
+        .copied()
+        .filter(|triple| fits(*triple, selector) && start <= *triple)
+        .min()
 }
 
 /// The smallest number from the bound on at the position of a triple of the list that matches.
 pub(crate) fn smallest(
     list: &[(u32, u32, u32)],
     position: Position,
-    selector: Selector,
+    selector: (u32, u32, u32),
     bound: u32,
-) -> u32 {
-    let mut smallest = 0;
-    for triple in list {
-        let number = number_at(*triple, position);
-        if fits(*triple, selector) && bound <= number && (smallest == 0 || number < smallest) {
-            smallest = number;
-        }
-    }
-    smallest
+) -> Option<u32> {
+    list.iter()
+        .filter(|triple| fits(**triple, selector))
+        .map(|triple| number_at(*triple, position))
+        .filter(|number| bound <= *number)
+        .min()
 }

@@ -20,7 +20,8 @@ whole : (c : goal.In_default) → DirectoryWhole c.args.top c.args.directory.now
 whole c = record {
   good = c.in_default.ensures;
   owned = elim c.else-is_empty.branch [
-    | else-is_empty-via-then-is_empty+else-not-is_empty w ↦ λ e. let none = w.if-not-is_empty.false in grind (arith, nat_tests)
+    | else-is_empty-via-then-is_empty+else-not-is_empty w ↦ λ e.
+        let none = w.if-not-is_empty.false in grind (arith, nat_tests)
     | else-is_empty-via-else-is_empty w ↦ λ e. let some = w.if-is_empty.false in grind (arith, nat_tests)
   ];
 }

@@ -1,0 +1,2 @@
+-- Read in this order.
+pub mod Numbers  -- triples, selectors, entries and pairs from plain numbers
