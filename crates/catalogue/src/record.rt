@@ -9,6 +9,7 @@ use crate::kind::Kind;
 /// The number of a kind, and a value.
 #[derive(Clone, Copy, Debug, PartialEq, Eq)]
 pub struct Record {
+    // Kept as a number: a list is handed over as it is, and a record of no kind is refused at its place.
     /// The published number of a kind, where the record is valid.
     pub kind: u32,
     /// The value; 0 unless the kind is an integer's, where the record is valid.

@@ -5,7 +5,7 @@ use Rattle.std.specs.Str.{bytes_eq}
 use Rattle.triples.specs.declared.selector.Selector.{Selector}
 use Rattle.triples.specs.declared.triple.Triple.{Triple}
 use Rattle.triples.specs.Order.{value_at}
-use Rattle.triples.specs.Selectors.{any}
+use Rattle.triples.specs.Selectors.{any, selector_of}
 use Rattle.console.specs.Words.{after_word, word}
 use Rattle.feedtrace_tables.specs.declared.expected.Expected.{Expected}
 use Rattle.feedtrace_tables.specs.declared.expected.Expected.TheVariants as expected
@@ -16,10 +16,6 @@ use Rattle.feedtrace_tables.specs.declared.verb.Verb.TheVariants as verb
 use Rattle.feedtrace_tables.specs.Fields.{◌>>=◌, first_as, first_from, first_number, first_position}
 use Rattle.feedtrace_tables.specs.Fields.{first_triple, only}
 use Rattle.feedtrace_tables.specs.Verbs.{verb_of}
-
--- the selector with the numbers of the triple as its entries
-abbrev pub selector_of : Triple → Selector
-selector_of t = record { subject = t.subject; property = t.property; object = t.object }
 
 -- the catalogue that a word names
 abbrev pub catalogue_of : List ℕ → Option Task

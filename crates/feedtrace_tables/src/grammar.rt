@@ -2,15 +2,14 @@
 ghost use Rattle.std.specs.Prelude.{◌≡◌};
 ghost use Rattle.feedtrace_tables.specs.Fields.{Parted};
 ghost use Rattle.feedtrace_tables.specs.Forms.{catalogue_form, catalogue_of, inverse_form, leap_form};
-ghost use Rattle.feedtrace_tables.specs.Forms.{seek_form, selector_of, task_asked, task_fields, task_form};
+ghost use Rattle.feedtrace_tables.specs.Forms.{seek_form, task_asked, task_fields, task_form};
 
 use crate::expected::Expected;
 use crate::field::Fields;
 use crate::task::Task;
 use crate::verb::Verb;
 use console::line::split_word;
-use triples::selector::{ANY, Selector};
-use triples::triple::Triple;
+use triples::selector::ANY;
 
 impl Task {
     /// The task that the text asks; none where its first word is no task's. An error where what follows the
@@ -33,18 +32,6 @@ impl Task {
         let mut fields = Fields { rest: text };
         let task = fields.task(verb)?;
         fields.end(task)
-    }
-}
-
-/// The selector with the numbers of the triple as its entries.
-// Kept as a function: both types are another crate's, so no `From` can stand here.
-fn selector(triple: Triple) -> Selector
-    ensures { result ≡ selector_of triple }
-{
-    Selector {
-        subject: triple.subject,
-        property: triple.property,
-        object: triple.object,
     }
 }
 
@@ -75,7 +62,7 @@ impl Fields<'_> {
             Verb::Seek => self.seek(),
             Verb::Leap => self.leap(),
             Verb::Lookup => Some(Task::Lookup(self.number()?)),
-            Verb::Scan => Some(Task::Scan(selector(self.triple()?))),
+            Verb::Scan => Some(Task::Scan(self.triple()?.into())),
             Verb::Trace => Some(Task::Trace(self.number()?)),
         }
     }
@@ -103,7 +90,7 @@ impl Fields<'_> {
         let wanted = self.triple()?;
         self.from()?;
         let start = self.triple()?;
-        Some(Task::Seek(selector(wanted), start))
+        Some(Task::Seek(wanted.into(), start))
     }
 
     /// The leap at a position, by a selector with 0 there, from a bound.
@@ -114,6 +101,6 @@ impl Fields<'_> {
         let wanted = self.triple()?;
         self.from()?;
         let bound = self.number()?;
-        (wanted.value(position) == ANY).then_some(Task::Leap(position, selector(wanted), bound))
+        (wanted.value(position) == ANY).then_some(Task::Leap(position, wanted.into(), bound))
     }
 }

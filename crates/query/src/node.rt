@@ -5,6 +5,7 @@ ghost use Rattle.query.specs.Format.{kind_of};
 use crate::kind::Kind;
 use crate::place::Place;
 
+// Kept as numbers: a node may be named more than once, and its number is what the bytes have.
 /// A node of a filter. A node that it names is given by its number, counted from 0 in the same filter.
 #[derive(Clone, Copy)]
 pub enum Node {

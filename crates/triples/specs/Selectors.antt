@@ -30,6 +30,10 @@ select s Object n = record { subject = s.subject; property = s.property; object 
 abbrev pub floor : Selector → Triple
 floor s = record { subject = s.subject; property = s.property; object = s.object }
 
+-- the numbers of a triple as entries
+abbrev pub selector_of : Triple → Selector
+selector_of t = record { subject = t.subject; property = t.property; object = t.object }
+
 -- t is above s at the first position where they differ, and s has no any up to there
 abbrev pub passed : Selector → Triple → Bool
 passed s t =

@@ -1,6 +1,6 @@
 //! Which triples are asked for: at each position a number to match, or any.
 ghost use Rattle.std.specs.Prelude.{◌≡◌};
-ghost use Rattle.triples.specs.Selectors.{accepts, matches, select, floor, passed, aim};
+ghost use Rattle.triples.specs.Selectors.{accepts, matches, select, floor, passed, aim, selector_of};
 
 use crate::position::Position;
 use crate::triple::{ORIGIN, Triple};
@@ -105,6 +105,24 @@ impl From<Selector> for Triple {
             object,
         } = selector;
         Triple {
+            subject,
+            property,
+            object,
+        }
+    }
+}
+
+/// The selector with the triple's numbers as its entries.
+impl From<Triple> for Selector {
+    ghost from_gives = { λ t s. s ≡ selector_of t };
+
+    fn from(triple: Triple) -> Selector {
+        let Triple {
+            subject,
+            property,
+            object,
+        } = triple;
+        Selector {
             subject,
             property,
             object,

@@ -27,6 +27,7 @@ fn is_next(directory: &[DirectoryEntry], i: usize) -> bool
     previous.property < entry.property && previous.first <= entry.first
 }
 
+// Kept as parameters: a `Table` is only made of a directory that is known to be in order.
 /// Whether entry `i` is in order, in a table of so many pairs.
 fn is_in_order(top: u32, directory: &[DirectoryEntry], pairs: usize, i: usize) -> bool
     requires { i < length directory.now }
