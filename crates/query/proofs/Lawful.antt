@@ -1,8 +1,7 @@
 -- Laws of the tests over lists that make a query lawful. Assumes nothing.
 use Rattle.std.proofs.Common.{◌≡◌, ℕ, zero, suc, ◌+◌, ◌*◌, ◌<◌, ◌≤◌, Bool, true, false, not, ◌&&◌, ◌||◌, List}
-use Rattle.std.proofs.Common.{[], ◌∷◌, ◌++◌, map, length, get_or, drop, Decides, sym, refl, ap, ◌∙◌, ⊎_elim}
+use Rattle.std.proofs.Common.{[], ◌∷◌, ◌++◌, length, get_or, Decides, sym, refl, ap, ◌∙◌, ⊎_elim}
 use Rattle.std.proofs.Common.{mul-suc, arith}
-use Rattle.std.proofs.lemmas.List.{at_drop_more, at_drop_all}
 use Rattle.std.proofs.lemmas.Bool.{and_parts, and_from, or_cases, or_left, or_right}
 use Rattle.std.proofs.lemmas.Bool.Decides.{Decides-below_or}
 use Rattle.query.specs.Parts.{Group}
@@ -136,19 +135,6 @@ shares_decides g =
 pub total_push : {A : Type 0} (f : A → ℕ) (xs : List A) (x : A) → total f (xs ++ x ∷ []) ≡ total f xs + f x
 total_push f [] x = omega arith
 total_push f (y ∷ xs) x = omega (arith, total_push f xs x)
-
-pub total_next : {A : Type 0} (f : A → ℕ) (xs : List A) (i : ℕ) (x : A) → i < length xs → x ≡ get_or xs i x
-    → total f (drop i xs) ≡ f x + total f (drop (i + 1) xs)
-total_next f xs i x l is = at_drop_more (total f) xs i x l
-    ∙ ap (λ y. f y + total f (drop (i + 1) xs)) (sym is)
-
-pub total_end : {A : Type 0} (f : A → ℕ) (xs : List A) (i : ℕ) → length xs ≤ i → total f (drop i xs) ≡ 0
-total_end f xs i l = at_drop_all (total f) xs i l
-
-pub total-map : {A B : Type 0} (g : A → B) (f : B → ℕ) (xs : List A) → total f (map g xs)
-    ≡ total (λ x. f (g x)) xs
-total-map g f [] = refl
-total-map g f (x ∷ xs) = ap (λ n. f (g x) + n) (total-map g f xs)
 
 -- where each counts at most so much
 pub total_most : {A : Type 0} (f : A → ℕ) (most : ℕ) (ok : A → Bool) (xs : List A)

@@ -30,5 +30,11 @@ pub each_below : (P Q : ℕ → Type 0) (n : ℕ) (r : Bool)
     → MatchBool r ((v : ℕ) → v < n → P v) ((v : ℕ) × ((v < n) × Q v))
 each_below P Q n true all = λ v l. subst P (get_or-range_with_len 0 n v 0 l ∙ zero-add _) (all v 0 (omega
     arith) l)
-each_below P Q n false (k, l, holds) = (k, (l, subst Q (get_or-range_with_len 0 n k 0 l ∙ zero-add _)
-    (holds 0)))
+each_below P Q n false (k, l, holds) = (
+  k,
+  (
+    l,
+    subst Q (get_or-range_with_len 0 n k 0 l ∙ zero-add _)
+        (holds 0),
+  ),
+)

@@ -33,7 +33,7 @@ returns c h =
       s.items,
       (
         sofar_all s 1 most_alternatives c.args.self.now c.in_ok-count.ensures unused refl
-        c.loop-number-test.false,
+            c.loop-number-test.false,
         s.held.tracks,
       ),
     )

@@ -38,7 +38,7 @@ returns c done required h =
       s.items,
       (
         sofar_all s 0 most_blocks c.args.self.now c.in_ok-count.ensures u (parts_none u)
-        c.loop-number-test.false,
+            c.loop-number-test.false,
         s.held,
       ),
     )

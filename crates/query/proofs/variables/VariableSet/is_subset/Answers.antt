@@ -10,5 +10,7 @@ returns c =
     let b = c.args.other.now in
     each_below (λ v. kept_in a b v ≡ true) (λ v. kept_in a b v ≡ false) 16 c.all.result
     (cases_from_all _ _ _ (λ v. kept_in a b v ≡ true) (λ v. kept_in a b v ≡ false) c.all.ensures.ran
-    (YieldsList-from_range 0 16 16 refl refl) (λ x q k. search (rules, tests)) (λ x q k. search (rules,
-    tests)))
+    (YieldsList-from_range 0 16 16 refl refl) (λ x q k. search (rules, tests)) (λ x q k. search (
+      rules,
+      tests,
+    )))
