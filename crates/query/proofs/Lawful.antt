@@ -15,10 +15,6 @@ pub or_false : (x : Bool) → (x || false) ≡ x
 or_false true = refl
 or_false false = refl
 
-pub or_assoc : (x y z : Bool) → ((x || y) || z) ≡ (x || (y || z))
-or_assoc true y z = refl
-or_assoc false y z = refl
-
 and_false : (x : Bool) → (x && false) ≡ false
 and_false true = refl
 and_false false = refl
