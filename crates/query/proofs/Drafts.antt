@@ -1,6 +1,6 @@
 -- Laws of drafts and of what is kept of them. Assumes nothing.
 use Rattle.std.proofs.Common.{◌≡◌, List, [], ◌∷◌, ◌++◌, ap}
-use Rattle.std.proofs.lemmas.List.{append_assoc, append-nil}
+use Rattle.std.proofs.lemmas.List.{append_assoc}
 use Rattle.query.specs.declared.node.Node.{Node}
 use Rattle.query.specs.declared.pattern.TriplePattern.{TriplePattern}
 use Rattle.query.specs.declared.builder.Builder.{Builder}
@@ -22,16 +22,6 @@ triple_in d ts t =
       nodes = d.nodes;
     }) (append_assoc d.triples ts (t ∷ []))
 
-pub triple_in_none : (d : Draft) → with_triples_in d [] ≡ d
-triple_in_none d =
-    ap (λ l. record {
-      done = d.done;
-      required = d.required;
-      blocks = d.blocks;
-      triples = l;
-      nodes = d.nodes;
-    }) (append-nil d.triples)
-
 pub node_in : (d : Draft) (ns : List Node) (n : Node) → with_node (with_nodes_in d ns) n
     ≡ with_nodes_in d (ns ++ n ∷ [])
 node_in d ns n =
@@ -42,16 +32,6 @@ node_in d ns n =
       triples = d.triples;
       nodes = l;
     }) (append_assoc d.nodes ns (n ∷ []))
-
-pub node_in_none : (d : Draft) → with_nodes_in d [] ≡ d
-node_in_none d =
-    ap (λ l. record {
-      done = d.done;
-      required = d.required;
-      blocks = d.blocks;
-      triples = d.triples;
-      nodes = l;
-    }) (append-nil d.nodes)
 
 -- Tracks
 

@@ -1,9 +1,9 @@
 -- Laws of the tests over lists that make a query lawful. Assumes nothing.
-use Rattle.std.proofs.Common.{◌≡◌, ℕ, zero, suc, ◌+◌, ◌*◌, ◌<◌, ◌≤◌, Bool, true, false, not, ◌&&◌, ◌||◌, List}
-use Rattle.std.proofs.Common.{[], ◌∷◌, ◌++◌, map, length, get_or, drop, Decides, sym, refl, ap, ◌∙◌, ⊎_elim}
+use Rattle.std.proofs.Common.{◌≡◌, ℕ, ◌+◌, ◌*◌, ◌<◌, ◌≤◌, Bool, true, false, not, ◌&&◌, ◌||◌, List}
+use Rattle.std.proofs.Common.{[], ◌∷◌, ◌++◌, length, Decides, refl, ap, ◌∙◌}
 use Rattle.std.proofs.Common.{mul-suc, arith}
-use Rattle.std.proofs.lemmas.List.{at_drop_more, at_drop_all}
-use Rattle.std.proofs.lemmas.Bool.{and_parts, and_from, or_cases, or_left, or_right}
+use Rattle.std.proofs.lemmas.List.Folds.{list_any-append}
+use Rattle.std.proofs.lemmas.Bool.{and_parts}
 use Rattle.std.proofs.lemmas.Bool.Decides.{Decides-below_or}
 use Rattle.query.specs.Parts.{Group}
 use Rattle.std.specs.List.{list_all, list_any}
@@ -14,10 +14,6 @@ use Rattle.query.specs.Lawful.{in_two, total, mentions, shared_below, shares}
 pub or_false : (x : Bool) → (x || false) ≡ x
 or_false true = refl
 or_false false = refl
-
-pub or_assoc : (x y z : Bool) → ((x || y) || z) ≡ (x || (y || z))
-or_assoc true y z = refl
-or_assoc false y z = refl
 
 and_false : (x : Bool) → (x && false) ≡ false
 and_false true = refl
@@ -33,24 +29,9 @@ two_of_three true false false false = refl
 
 -- some
 
-pub some_push : {A : Type 0} (p : A → Bool) (xs : List A) (x : A) → list_any p (xs ++ x ∷ []) ≡ (list_any p
-    xs || p x)
-some_push p [] x = or_false (p x)
-some_push p (y ∷ xs) x = ap (λ b. p y || b) (some_push p xs x) ∙ sym (or_assoc (p y) (list_any p xs) (p x))
-
-pub some_from : {A : Type 0} (p : A → Bool) (xs : List A) (j : ℕ) (d : A) → j < length xs → p (get_or xs j d)
-    ≡ true → list_any p xs ≡ true
-some_from p [] j d l h = absurd (omega arith)
-some_from p (x ∷ xs) zero d l h = or_left (p x) (list_any p xs) h
-some_from p (x ∷ xs) (suc j) d l h = or_right (p x) (list_any p xs) (some_from p xs j d (omega arith) h)
-
-pub some_at : {A : Type 0} (p : A → Bool) (xs : List A) (d : A) → list_any p xs ≡ true
-    → (j : ℕ) × ((j < length xs) × (p (get_or xs j d) ≡ true))
-some_at p [] d h = let z : ◌≡◌ {A = ℕ} 0 1 = cc in absurd (omega arith)
-some_at p (x ∷ xs) d h =
-    ⊎_elim (λ e. (0, (omega arith, e)))
-    (λ e. let (j, (l, t)) = some_at p xs d e in (suc j, (omega arith, t)))
-    (or_cases (p x) (list_any p xs) h)
+pub some_push : {A : Type 0} (p : A → Bool) (xs : List A) (x : A)
+    → list_any p (xs ++ x ∷ []) ≡ (list_any p xs || p x)
+some_push p xs x = list_any-append p xs (x ∷ []) ∙ ap (λ b. list_any p xs || b) (or_false (p x))
 
 -- in_two
 
@@ -62,63 +43,6 @@ in_two_push p (y ∷ xs) x =
     ap (λ b. (p y && b) || in_two p (xs ++ x ∷ [])) (some_push p xs x)
     ∙ ap (λ b. (p y && (list_any p xs || p x)) || b) (in_two_push p xs x)
     ∙ two_of_three (p y) (list_any p xs) (p x) (in_two p xs)
-
--- p holds of two elements
-pub record Two {A : Type 0} (p : A → Bool) (xs : List A) (d : A) : Type 0 where
-  pub first : ℕ
-  pub second : ℕ
-  pub ordered : first < second
-  pub inside : second < length xs
-  pub first_holds : p (get_or xs first d) ≡ true
-  pub second_holds : p (get_or xs second d) ≡ true
-
-in_two_from : {A : Type 0} (p : A → Bool) (xs : List A) (i j : ℕ) (d : A) → i < j → j < length xs
-    → p (get_or xs i d) ≡ true
-    → p (get_or xs j d) ≡ true → in_two p xs ≡ true
-in_two_from p [] i j d o l h k = absurd (omega arith)
-in_two_from p (x ∷ xs) zero zero d o l h k = absurd (omega arith)
-in_two_from p (x ∷ xs) zero (suc j) d o l h k =
-    or_left (p x && list_any p xs) (in_two p xs)
-    (and_from (p x) (list_any p xs) h (some_from p xs j d (omega arith) k))
-in_two_from p (x ∷ xs) (suc i) zero d o l h k = absurd (omega arith)
-in_two_from p (x ∷ xs) (suc i) (suc j) d o l h k =
-    or_right (p x && list_any p xs) (in_two p xs) (in_two_from p xs i j d (omega arith) (omega arith) h k)
-
-in_two_at : {A : Type 0} (p : A → Bool) (xs : List A) (d : A) → in_two p xs ≡ true → Two p xs d
-in_two_at p [] d h = let z : ◌≡◌ {A = ℕ} 0 1 = cc in absurd (omega arith)
-in_two_at p (x ∷ xs) d h =
-    ⊎_elim
-    (λ e.
-    let w = and_parts (p x) (list_any p xs) e in
-    let (j, (l, t)) = some_at p xs d w.1 in
-    record {
-      first = 0;
-      second = suc j;
-      ordered = omega arith;
-      inside = omega arith;
-      first_holds = w.0;
-      second_holds = t;
-    })
-    (λ e.
-    let t = in_two_at p xs d e in
-    let o = t.ordered in
-    let i = t.inside in
-    record {
-      first = suc t.first;
-      second = suc t.second;
-      ordered = omega arith;
-      inside = omega arith;
-      first_holds = t.first_holds;
-      second_holds = t.second_holds;
-    })
-    (or_cases (p x && list_any p xs) (in_two p xs) h)
-
-pub in_two_decides : {A : Type 0} (p : A → Bool) (xs : List A) (d : A) → Decides (in_two p xs) (Two p xs d)
-in_two_decides p xs d = (
-  in_two_at p xs d,
-  λ t. in_two_from p xs t.first t.second d t.ordered t.inside
-      t.first_holds t.second_holds,
-)
 
 -- shares
 
@@ -136,19 +60,6 @@ shares_decides g =
 pub total_push : {A : Type 0} (f : A → ℕ) (xs : List A) (x : A) → total f (xs ++ x ∷ []) ≡ total f xs + f x
 total_push f [] x = omega arith
 total_push f (y ∷ xs) x = omega (arith, total_push f xs x)
-
-pub total_next : {A : Type 0} (f : A → ℕ) (xs : List A) (i : ℕ) (x : A) → i < length xs → x ≡ get_or xs i x
-    → total f (drop i xs) ≡ f x + total f (drop (i + 1) xs)
-total_next f xs i x l is = at_drop_more (total f) xs i x l
-    ∙ ap (λ y. f y + total f (drop (i + 1) xs)) (sym is)
-
-pub total_end : {A : Type 0} (f : A → ℕ) (xs : List A) (i : ℕ) → length xs ≤ i → total f (drop i xs) ≡ 0
-total_end f xs i l = at_drop_all (total f) xs i l
-
-pub total-map : {A B : Type 0} (g : A → B) (f : B → ℕ) (xs : List A) → total f (map g xs)
-    ≡ total (λ x. f (g x)) xs
-total-map g f [] = refl
-total-map g f (x ∷ xs) = ap (λ n. f (g x) + n) (total-map g f xs)
 
 -- where each counts at most so much
 pub total_most : {A : Type 0} (f : A → ℕ) (most : ℕ) (ok : A → Bool) (xs : List A)

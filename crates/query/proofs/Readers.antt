@@ -154,6 +154,13 @@ module _ {A : Type 0} (why : Refusal) (f : ℕ → Option A) (g : A → ℕ) (Ok
         sym m.1 ∙ law.2 ∙ ap (λ n. at + length (encode n)) (sym h.1),
       )
 
+  role_alike : (v at : ℕ) (other : List ℕ) (r : Refusal) (q : ℕ) → v ≤ largest
+      → (f v ≡ None) × (why ≡ r) × (at ≡ q) → role why f at (encode v ++ other) ≡ refused r q
+  role_alike v at other r q few m =
+      ap (λ t. next t (λ n after more. meant why at (f n) after more)) (number_codec.back v at other few)
+      ∙ ap (λ o. meant why at o (at + length (encode v)) other) m.0
+      ∙ ap (λ w. refused w at) m.1 ∙ ap (refused r) m.2
+
   role_stops : (at : ℕ) (bs : List ℕ) (r : Refusal) (q : ℕ) → role why f at bs ≡ refused r q → by_number r
       ≡ true
       → Stops (role why f) at bs r q
@@ -179,11 +186,7 @@ module _ {A : Type 0} (why : Refusal) (f : ℕ → Option A) (g : A → ℕ) (Ok
         used = encode s.value;
         rest = s.bytes;
         parted = law.1;
-        alike = λ other.
-            ap (λ m. next m (λ n after more. meant why at (f n) after more))
-            (number_codec.back s.value at other law.0)
-            ∙ ap (λ o. meant why at o (at + k) other) m.0
-            ∙ ap (λ w. refused w at) m.1 ∙ ap (refused r) m.2;
+        alike = λ other. role_alike s.value at other r q law.0 m;
         reached = omega (arith, m.2);
         ends = omega (arith, m.2, spans, ap (λ n. span (drop n bs)) none);
       })

@@ -29,21 +29,6 @@ pub record Sofar {S A : Type 0} (item : S → Reader A) (step : S → A → S) (
       ≡ prefixed items (ahead (times (count - taken) item step (state items)) here)
   pub held : Held items
 
--- no item came in yet
-pub sofar_none : {S A : Type 0} {item : S → Reader A} {step : S → A → S} {state : List A → S} {count : ℕ}
-    {start : Cursor} {Held : List A → Type 0}
-    → Held [] → Sofar item step state count 0 start start Held
-sofar_none {item = item} {step = step} {state = state} {count = count} {start = start} h = record {
-  items = [];
-  many = refl;
-  within = omega arith;
-  left =
-      let all : count ≡ count - 0 = omega arith in
-      prefixed_none (ahead (times count item step (state [])) start)
-      ∙ ap (λ n. prefixed [] (ahead (times n item step (state [])) start)) all;
-  held = h;
-}
-
 module _ {S A : Type 0} {item : S → Reader A} {step : S → A → S} {state : List A → S} {count taken : ℕ}
     {start here : Cursor} {Held : List A → Type 0} where
   module _ (s : Sofar item step state count taken start here Held) where

@@ -1,13 +1,12 @@
 //! What a query holds.
 ghost use Rattle.std.specs.Prelude.{◌≡◌, ◌≤◌, map, length};
 ghost use Rattle.query.specs.Format.{bytes_of};
-ghost use Rattle.query.specs.Lawful.{total};
+ghost use Rattle.query.specs.Lawful.{triples_in, nodes_in};
 ghost use Rattle.query.specs.Limits.{most_in_all};
-ghost use Rattle.query.specs.Parts.{part_of, group_of};
+ghost use Rattle.query.specs.Parts.{group_of};
 ghost use Rattle.query.specs.Shape.{shape, counts_of};
 
 use crate::alternative::Alternative;
-use crate::block::Block;
 use crate::query::Query;
 
 /// How much a query holds, over all its alternatives.
@@ -40,41 +39,32 @@ impl Query {
     pub fn counts(&self) -> Counts
         ensures { result ≡ counts_of (shape self.now) }
     {
-        let mut blocks = 0;
-        let mut triples = 0;
-        let mut nodes = 0;
         let alternatives = self.alternatives.as_slice();
-        // Kept as a loop: one pass fills three sums, each within the limits of a query.
-        for alternative in alternatives {
-            let inner = totals(alternative.blocks.as_slice());
-            let required = alternative.required.len();
-            let filter = alternative.filter.len();
-            blocks += alternative.blocks.len();
-            triples += required + inner.0;
-            nodes += inner.1 + filter;
-        }
         Counts {
             alternatives: alternatives.len(),
-            blocks,
-            triples,
-            nodes,
+            blocks: alternatives.iter().map(|a| a.blocks.len()).sum(),
+            triples: alternatives.iter().map(Alternative::triples).sum(),
+            nodes: alternatives.iter().map(Alternative::nodes).sum(),
         }
     }
 }
 
-/// How many triples and how many filter nodes the blocks have in all.
-fn totals(blocks: &[Block]) -> (usize, usize)
-    requires triples { total (λ b. length (part_of b).triples) blocks.now ≤ most_in_all }
-    requires nodes { total (λ b. length (part_of b).filter) blocks.now ≤ most_in_all }
-    ensures triples { result.0 ≡ total (λ b. length (part_of b).triples) blocks.now }
-    ensures nodes { result.1 ≡ total (λ b. length (part_of b).filter) blocks.now }
-{
-    let mut triples = 0;
-    let mut nodes = 0;
-    // Kept as a loop: one pass fills both sums, each within the limits of a query.
-    for block in blocks {
-        triples += block.triples.len();
-        nodes += block.filter.len();
+impl Alternative {
+    /// How many triples the alternative has, with those of its blocks.
+    fn triples(&self) -> usize
+        requires { triples_in (group_of self.now) ≤ most_in_all }
+        ensures { result ≡ triples_in (group_of self.now) }
+    {
+        let in_blocks: usize = self.blocks.iter().map(|block| block.triples.len()).sum();
+        self.required.len() + in_blocks
     }
-    (triples, nodes)
+
+    /// How many filter nodes the alternative has, with those of its blocks.
+    fn nodes(&self) -> usize
+        requires { nodes_in (group_of self.now) ≤ most_in_all }
+        ensures { result ≡ nodes_in (group_of self.now) }
+    {
+        let in_blocks: usize = self.blocks.iter().map(|block| block.filter.len()).sum();
+        in_blocks + self.filter.len()
+    }
 }

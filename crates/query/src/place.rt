@@ -35,16 +35,10 @@ impl Place {
         ensures { result ≡ place_from code }
     {
         let number = code / 2;
-        if code % 2 == 1 {
-            if number <= MOST_VARIABLE {
-                Some(Place::Variable(number))
-            } else {
-                None
-            }
-        } else if number >= 1 && number <= MOST_TERM {
-            Some(Place::Term(number))
-        } else {
-            None
+        match (code % 2, number) {
+            (1, ..=MOST_VARIABLE) => Some(Place::Variable(number)),
+            (0, 1..=MOST_TERM) => Some(Place::Term(number)),
+            _ => None,
         }
     }
 }

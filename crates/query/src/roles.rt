@@ -48,7 +48,7 @@ impl<'a> Cursor<'a> {
         ensures { Reads (ahead (readers.count least most) self.old) result self.new }
     {
         self.number_as(Refusal::CountOutside, |n| {
-            (least <= n && n <= most).then_some(n)
+            (least..=most).contains(&n).then_some(n)
         })
     }
 

@@ -2,11 +2,8 @@ use Rattle.std.proofs.Common.{sym, refl, ap, ◌∙◌}
 use Rattle.query.specs.Scanning.{ahead}
 use Rattle.query.specs.Grammar.{alternative, unused, with_group}
 use Rattle.query.specs.Limits.{most_alternatives}
-use Rattle.query.proofs.Scans.{sofar_none, sofar_more, sofar_all, sofar_refused, groups_push}
+use Rattle.query.proofs.Scans.{sofar_more, sofar_refused, groups_push}
 use Rattle.query.proofs.cursor.Cursor.alternatives.Goals as goal
-
-pub loop-number-init : goal.loop-number-init
-loop-number-init c h = sofar_none h
 
 pub returns-in_err-alternative : goal.returns-in_err-alternative
 returns-in_err-alternative c h =
@@ -26,14 +23,3 @@ loop-number-preserved c h =
       tracks = came.tracks;
       used = came.used ∙ ap (λ v. with_group v g) s.held.used ∙ sym (groups_push s.items g);
     })
-
-pub returns : goal.returns
-returns c h =
-    let s = c.loop-number.invariant h in (
-      s.items,
-      (
-        sofar_all s 1 most_alternatives c.args.self.now c.in_ok-count.ensures unused refl
-            c.loop-number-test.false,
-        s.held.tracks,
-      ),
-    )

@@ -3,12 +3,8 @@ use Rattle.query.specs.Building.{used_of}
 use Rattle.query.specs.Scanning.{ahead}
 use Rattle.query.specs.Grammar.{block, with_part}
 use Rattle.query.specs.Limits.{most_blocks}
-use Rattle.query.proofs.Scans.{sofar_none, sofar_more, sofar_all, sofar_refused, parts_none, parts_push}
+use Rattle.query.proofs.Scans.{sofar_more, sofar_refused, parts_none, parts_push}
 use Rattle.query.proofs.cursor.Cursor.blocks.Goals as goal
-
-pub loop-number-init : goal.loop-number-init
-loop-number-init c done required h =
-    sofar_none (record { tracks = h; used = sym (parts_none (used_of c.args.builder.now)) })
 
 pub returns-in_err-block : goal.returns-in_err-block
 returns-in_err-block c done required h =
@@ -30,15 +26,3 @@ loop-number-preserved c done required h =
       tracks = came.tracks;
       used = came.used ∙ ap (λ v. with_part v b) s.held.used ∙ sym (parts_push u s.items b);
     })
-
-pub returns : goal.returns
-returns c done required h =
-    let u = used_of c.args.builder.now in
-    let s = c.loop-number.invariant done required h in (
-      s.items,
-      (
-        sofar_all s 0 most_blocks c.args.self.now c.in_ok-count.ensures u (parts_none u)
-            c.loop-number-test.false,
-        s.held,
-      ),
-    )

@@ -1,4 +1,4 @@
-use Rattle.std.proofs.Common.{◌∙◌, refl, ap, subst, arith}
+use Rattle.std.proofs.Common.{◌≡◌, ◌+◌, ◌∙◌, length, refl, ap, subst, arith}
 use Rattle.std.proofs.lemmas.List.{length_push}
 use Rattle.query.specs.Building.{Tracks}
 use Rattle.query.specs.Drafts.{with_nodes_in}
@@ -31,15 +31,16 @@ loop-number-preserved c d h =
 pub returns : goal.returns
 returns c d h =
     let b = c.args.builder.now in
-    let s = c.loop-number.invariant d (recounted b d b.triples c.tallied.new.tally h) in (
+    let s = c.loop-number.invariant d (recounted b d b.triples c.tallied.new.tally h) in
+    let counted : c.tallied.new.tally.total ≡ b.nodes.total + length s.items =
+    omega (arith, c.in_ok-count.ensures.counted, s.many, s.within) in (
       s.items,
       (
         sofar_all s 0 (room b.nodes.total) c.args.self.now c.in_ok-count.ensures.answer 0 refl
             c.loop-number-test.false,
         record {
           tracks = s.held.tracks;
-          used = s.held.used ∙ ap (λ n. record { triples = b.triples.total; nodes = n })
-              (omega (arith, c.in_ok-count.ensures.counted, s.many, s.within));
+          used = s.held.used ∙ ap (λ n. record { triples = b.triples.total; nodes = n }) counted;
         },
       ),
     )

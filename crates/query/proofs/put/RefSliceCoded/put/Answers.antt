@@ -1,7 +1,7 @@
 use Rattle.std.proofs.Common.{◌+◌, ◌≤◌, length, ◌∙◌}
 use Rattle.std.specs.List.{flat_map}
 use Rattle.varint.specs.Encode.{encode}
-use Rattle.query.proofs.Writes.{put_append, room_next, completes_more, completes_all, room_second}
+use Rattle.query.proofs.Writes.{put_append, completes_more, completes_all, room_second}
 use Rattle.query.proofs.put.RefSliceCoded.put.Given as given
 use Rattle.query.proofs.put.RefSliceCoded.put.Goals as goal
 use Rattle.query.proofs.put.RefSliceCoded.put.Goals.{After-put}
@@ -14,14 +14,6 @@ fits g c =
     let xs = c.args.self.now.now in
     room_second (encode (length xs)) (flat_map g.T.Coded.code xs) c.args.writer.now.at c.put.new.writer.at
     c.args.writer.now.out.now c.put.new.writer.out.now c.requires.room c.put.ensures.put
-
-pub put-requires-in-loop-item-clause-room : goal.put-requires-in-loop-item-clause-room
-put-requires-in-loop-item-clause-room g c =
-    let first = c.put.new.writer in
-    let here = c.loop-item.writer in
-    room_next g.T.Coded.code c.args.self.now.now first.out.now first.at
-    (fits g (goal.at.put-requires-in-loop-item-clause-room g c).After-put) c.loop-item.item-index
-    c.item-item.result here.out.now here.at c.loop-item-test.true c.item-item.is c.loop-item.invariant.0
 
 pub loop-item-preserved : goal.loop-item-preserved
 loop-item-preserved g c =
