@@ -2,7 +2,6 @@
 --     T P Q N S O A B C     numbers from 0 to 4,294,967,295
 use Rattle.std.specs.Prelude.{ℕ, cond, List, Some, None, Ok, Err, codes, Option, Result, ◌==◌}
 use Rattle.std.specs.Str.{bytes_eq}
-use Rattle.triples.specs.declared.selector.Selector.{Selector}
 use Rattle.triples.specs.declared.triple.Triple.{Triple}
 use Rattle.triples.specs.Order.{value_at}
 use Rattle.triples.specs.Selectors.{any, selector_of}
