@@ -40,6 +40,7 @@ fn uses_in(node: Node, number: usize) -> usize {
     }
 }
 
+// Kept as functions: each writes the last node of a slice, as a `Display` of the slice would have to again.
 /// Writes the expression of the last node, in brackets of its own where it has none.
 fn put_whole<W: Write>(nodes: &[Node], f: &mut Formatter<W>) -> fmt::Result {
     f.write_str("FILTER ")?;

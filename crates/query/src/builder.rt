@@ -25,6 +25,7 @@ pub(crate) struct Builder {
     pub(crate) in_two_blocks: VariableSet,
     /// Whether blocks of a finished alternative share a variable that its required triples lack.
     pub(crate) shared: bool,
+    // Kept as an option: whoever asked for the parts knows that none of them is left for want of memory.
     /// The parts, if they are kept and there was memory for all of them.
     pub(crate) kept: Option<Kept>,
 }

@@ -10,6 +10,7 @@ use triples::triple::Triple;
 /// Each term, 0, the number over the top, and the largest: as entries of selectors and starts, and as bounds.
 pub const NUMBERS: [u32; 8] = [0, 1, 2, 3, 4, 5, 6, 4_294_967_295];
 
+// Kept as functions: neither tuples nor triples are this crate's own, so no `From` can stand here.
 /// The triple of these numbers.
 pub fn triple_of(numbers: (u32, u32, u32)) -> Triple
     ensures { result ≡ triple_from numbers }
