@@ -19,14 +19,6 @@ impl VariableSet {
         }
     }
 
-    /// Whether variable `v` is a member.
-    pub(crate) fn has(&self, v: usize) -> bool
-        requires { v < variables }
-        ensures { result ≡ member v self.now }
-    {
-        self.members[v]
-    }
-
     /// Makes the place a member, if it is a variable.
     fn add(&mut self, place: Place)
         ensures { (v : ℕ) → v < variables → member v self.new ≡ (member v self.old || is_variable v place) }
