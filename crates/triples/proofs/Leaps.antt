@@ -1,17 +1,16 @@
 -- Laws of leaping over an ordered list. Assumes nothing.
-use Rattle.std.specs.List.{fold, reduce, filter_map, cons_option, prefix_len}
+use Rattle.std.specs.List.{fold, prefix_len}
 use Rattle.std.proofs.lemmas.List.{length-map, get_or-map, take-map}
 use Rattle.std.proofs.lemmas.List.Sums.{prefix_len_stops}
 use Rattle.std.proofs.lemmas.Bool.{not-false}
-use Rattle.std.proofs.lemmas.Bool.Decides.{nat_tests}
 use Rattle.triples.proofs.Selectors.{passed_none}
 use Rattle.triples.proofs.Finding.{ordered_upto, ordered_dropped}
-use Rattle.std.proofs.Common.{min, not, ◌≡◌, ℕ, ◌+◌, ◌<◌, Bool, true, false, ◌||◌, leb, List, [], ◌∷◌}
+use Rattle.std.proofs.Common.{not, ◌≡◌, ℕ, ◌+◌, ◌<◌, Bool, true, false, ◌||◌, leb, List, [], ◌∷◌}
 use Rattle.std.proofs.Common.{◌++◌, map}
 use Rattle.std.proofs.Common.{length, get_or, take, drop, Some, None, Option, sym, refl, ap, ◌∙◌, subst}
 use Rattle.std.proofs.Common.{⊎_elim, arith}
 use mathlib.Core.Path.{fun_ext}
-use Rattle.std.proofs.lemmas.List.{take-append-drop, map-append, get_or-take, get_or-drop}
+use Rattle.std.proofs.lemmas.List.{append-nil, append_assoc, take-append-drop, map-append, get_or-take, get_or-drop}
 use Rattle.std.proofs.lemmas.List.{length-take, length-drop}
 use Rattle.std.proofs.lemmas.Bool.{both_ways, cases_Bool, leb-true, leb-false, cond-true, cond-false}
 use Rattle.std.proofs.lemmas.Bool.{or_cases}
@@ -88,33 +87,21 @@ module _ (p : Position) (s : Selector) (bound : ℕ) where
   lesser_none None = refl
   lesser_none (Some n) = refl
 
-  -- the smallest number offered by a list
+  -- the lesser of a number and what a triple offers
+  abbrev pub better : Option ℕ → Triple → Option ℕ
+  better least t = lesser least (offer_of t p s bound)
 
-  min_assoc : (a b k : ℕ) → min (min a b) k ≡ min a (min b k)
-  min_assoc a b k = omega arith
+  -- going on from what some triples offer
+  leapt_on : (ys ts : List Triple) (a : Option ℕ) → Leapt (among ys) p s bound a
+      → Leapt (among (ys ++ ts)) p s bound (fold better a ts)
+  leapt_on ys [] a f = subst (λ us. Leapt (among us) p s bound a) (sym (append-nil ys)) f
+  leapt_on ys (t ∷ ts) a f =
+      subst (λ us. Leapt (among us) p s bound (fold better (better a t) ts)) (append_assoc ys (t ∷ []) ts)
+      (leapt_on (ys ++ t ∷ []) ts (better a t)
+      (leapt_append ys (t ∷ []) a (offer_of t p s bound) f (leapt_one t)))
 
-  lesser_min : (k n : ℕ) → Some (min k n) ≡ lesser (Some k) (Some n)
-  lesser_min k n = grind (arith, nat_tests)
-
-  fold_min : (a b : ℕ) (ks : List ℕ) → fold min (min a b) ks ≡ min a (fold min b ks)
-  fold_min a b [] = refl
-  fold_min a b (k ∷ ks) = ap (λ n. fold min n ks) (min_assoc a b k) ∙ fold_min a (min b k) ks
-
-  least_more : (k : ℕ) (ks : List ℕ) → reduce min (k ∷ ks) ≡ lesser (Some k) (reduce min ks)
-  least_more k [] = refl
-  least_more k (n ∷ ks) = ap Some (fold_min k n ks) ∙ lesser_min k (fold min n ks)
-
-  least_offer : (o : Option ℕ) (ks : List ℕ) → reduce min (cons_option o ks) ≡ lesser o (reduce min ks)
-  least_offer None ks = refl
-  least_offer (Some k) ks = least_more k ks
-
-  pub leapt_offers : (ts : List Triple)
-      → Leapt (among ts) p s bound (reduce min (filter_map (λ t. offer_of t p s bound) ts))
-  leapt_offers [] = λ k o. both_ways false refl o.held
-  leapt_offers (t ∷ ts) =
-      let offers = filter_map (λ t. offer_of t p s bound) ts in
-      subst (Leapt (among (t ∷ ts)) p s bound) (sym (least_offer (offer_of t p s bound) offers))
-      (leapt_append (t ∷ []) ts (offer_of t p s bound) (reduce min offers) (leapt_one t) (leapt_offers ts))
+  pub leapt_offers : (ts : List Triple) → Leapt (among ts) p s bound (fold better None ts)
+  leapt_offers ts = leapt_on [] ts None (λ k o. both_ways false refl o.held)
 
   module _ {X : Type 0} (triple : X → Triple) where
     pub leapt_silent : (xs : List X) → Silent triple xs s 0 (length xs)
@@ -184,10 +171,10 @@ module _ (p : Position) (s : Selector) (bound : ℕ) where
 
     leapt_passed : (xs : List X) → Ordered triple xs
         → Leapt (among (map triple xs)) p s bound
-        (reduce min (filter_map (λ t. offer_of t p s bound) (reachable triple xs s 0)))
+        (fold better None (reachable triple xs s 0))
     unfolding reach
     leapt_passed xs ordered =
-        let least = reduce min (filter_map (λ t. offer_of t p s bound) (reachable triple xs s 0)) in
+        let least = fold better None (reachable triple xs s 0) in
         leapt_rest xs (reach xs) least (silent_behind xs ordered)
         (subst (λ ts. Leapt (among ts) p s bound least) (take-map triple (reach xs) xs)
         (leapt_offers (reachable triple xs s 0)))
@@ -195,6 +182,6 @@ module _ (p : Position) (s : Selector) (bound : ℕ) where
     -- the smallest number that the triples reached offer
     pub leapt_reachable : (xs : List X) → Ordered triple xs → (from : ℕ) → Split triple xs (floor s) from
         → Leapt (among (map triple xs)) p s bound
-        (reduce min (filter_map (λ t. offer_of t p s bound) (reachable triple xs s from)))
+        (fold better None (reachable triple xs s from))
     leapt_reachable xs ordered from split =
         leapt_begun xs from _ split (leapt_passed (drop from xs) (ordered_dropped triple xs ordered from))

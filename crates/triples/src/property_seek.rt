@@ -33,6 +33,7 @@ impl PropertyStore {
         }
     }
 
+    // Kept as a clause of three: `run` cuts at the entry's place and the next, so an entry alone wouldn't do.
     /// The pairs of entry `i`, under its property.
     fn run(&self, i: usize) -> Run<'_, Pair>
         requires { i < vec_len self.now.directory }
@@ -46,7 +47,8 @@ impl PropertyStore {
         }
     }
 
-    // Kept as two, at an entry's place: each makes another call, and a run is cut at its own place and the next.
+    // Kept as two, at an entry's place: each makes another call, and written into the closures of `fold` their
+    // proofs didn't close.
     /// The earlier of `least` and the least triple of entry `i` that matches the selector but for its
     /// property and is not below the start. Within an entry the property is known, so its pairs are sought
     /// by subject and object.

@@ -15,6 +15,7 @@ impl RowStore {
     fn run(&self) -> Run<'_, Triple>
         ensures { result.items.now ≡ self.now.rows.items }
     {
+        // Kept as `ANY`: with an `Option` here a pair would have to unwrap the property that it always has.
         Run {
             items: &self.rows,
             property: ANY,

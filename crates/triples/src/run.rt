@@ -9,6 +9,7 @@ use crate::element::Element;
 use crate::position::{Position, offered};
 use crate::selector::Selector;
 use crate::triple::Triple;
+use crate::union::least_of;
 
 /// A list of the property whose elements stand for strictly ascending triples.
 #[derive(Drop)]
@@ -59,8 +60,9 @@ impl<'a, T: Element> Run<'a, T> {
             .iter()
             .map(|item| item.triple(self.property))
             .take_while(|triple| !selector.is_passed(*triple))
-            .filter_map(|triple| offer(triple, position, selector, bound))
-            .min()
+            .fold(None, |least, triple| {
+                least_of(least, offer(triple, position, selector, bound))
+            })
     }
 
     /// The smallest number from the bound on at the position of a triple of the list that matches.

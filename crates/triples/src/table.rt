@@ -12,13 +12,14 @@ use crate::selector::ANY;
 use crate::store::is_term;
 use std::ops::Range;
 
+// Kept by index, and with its clause: the first entry has none before it, so a walk over neighbours would leave
+// it out, and what a place lies in is the directory of that call.
 /// Whether entry `i` goes on from the one before it: the first begins at place 0, a later one has a larger
 /// property and no smaller place.
 fn is_next(directory: &[DirectoryEntry], i: usize) -> bool
     requires { i < length directory.now }
     ensures { result ≡ follows directory.now i }
 {
-    // Kept by index: the first entry has none before it, so a walk over neighbours would leave it out.
     let entry = directory[i];
     if i == 0 {
         return entry.first == 0;
@@ -37,6 +38,7 @@ fn is_in_order(top: u32, directory: &[DirectoryEntry], pairs: usize, i: usize) -
     is_term(top, entry.property) && entry.first as usize <= pairs && is_next(directory, i)
 }
 
+// Kept by index: an entry is judged with the one before it, and the first has none.
 /// The first entry that is broken, in a table of so many pairs; none where all are good.
 pub(crate) fn first_broken(top: u32, directory: &[DirectoryEntry], pairs: usize) -> Option<usize>
     ensures { MatchOption result (EntriesGood top directory.now pairs) (FirstBroken top directory.now pairs) }
