@@ -1,11 +1,7 @@
 -- Laws of leaping over an ordered list. Assumes nothing.
-use Rattle.std.specs.List.{fold, prefix_len}
-use Rattle.std.proofs.lemmas.List.{length-map, get_or-map, take-map}
-use Rattle.std.proofs.lemmas.List.Sums.{prefix_len_stops}
-use Rattle.std.proofs.lemmas.Bool.{not-false}
+use Rattle.std.specs.List.{fold}
 use Rattle.triples.proofs.Selectors.{passed_none}
-use Rattle.triples.proofs.Finding.{ordered_upto, ordered_dropped}
-use Rattle.std.proofs.Common.{not, ◌≡◌, ℕ, ◌+◌, ◌<◌, Bool, true, false, ◌||◌, leb, List, [], ◌∷◌}
+use Rattle.std.proofs.Common.{◌≡◌, ℕ, ◌+◌, ◌-◌, ◌<◌, Bool, true, false, ◌||◌, leb, List, [], ◌∷◌}
 use Rattle.std.proofs.Common.{◌++◌, map}
 use Rattle.std.proofs.Common.{length, get_or, take, drop, Some, None, Option, sym, refl, ap, ◌∙◌, subst}
 use Rattle.std.proofs.Common.{⊎_elim, arith}
@@ -22,9 +18,8 @@ use Rattle.triples.specs.Selectors.{matches, floor, passed}
 use Rattle.triples.specs.Meaning.{among}
 use Rattle.triples.specs.Seeks.{Leapt}
 use Rattle.triples.specs.Unions.{union, lesser}
-use Rattle.triples.specs.Tables.{Ordered}
-use Rattle.triples.specs.Finding.{Split, Silent, offer_of, reachable}
-use Rattle.triples.proofs.Order.{same_is, same_itself}
+use Rattle.triples.specs.Finding.{Split, Passed, Silent, offer_of}
+use Rattle.triples.proofs.Order.{before_itself, same_is, same_itself}
 use Rattle.triples.proofs.Selectors.{floor_reached}
 use Rattle.triples.specs.Laws.{among-append}
 use Rattle.triples.proofs.Meaning.{among_place}
@@ -153,35 +148,18 @@ module _ (p : Position) (s : Selector) (bound : ℕ) where
           (sym (map-append triple (take n xs) (drop n xs)) ∙ ap (map triple) (take-append-drop n xs))
           (leapt_append (map triple (take n xs)) (map triple (drop n xs)) None least (leapt_none n split) f)
 
-    -- behind the triples reached nothing matches
-    reach : List X → ℕ
-    reach xs = prefix_len (λ t. not (passed s t)) (map triple xs)
-
-    silent_behind : (xs : List X) → Ordered triple xs → Silent triple xs s (reach xs) (length xs)
-    unfolding reach
-    silent_behind xs ordered k d low high =
-        let n = reach xs in
-        let inside : n < length xs = omega (arith, low, high) in
-        let len = length-map xs triple in
-        let stop = prefix_len_stops (λ t. not (passed s t)) (map triple xs) (triple d) (omega
-        (arith, inside, len)) in
-        passed_none s (triple (get_or xs n d)) (triple (get_or xs k d))
-        (subst (λ t. passed s t ≡ true) (get_or-map triple xs n d (triple d) inside) (not-false _ stop))
-        (ordered_upto triple xs ordered n k d low high)
-
-    leapt_passed : (xs : List X) → Ordered triple xs
+    -- the smallest number that the triples offer from the floor up to those that are passed
+    pub leapt_between : (xs : List X) (from to : ℕ) → Split triple xs (floor s) from → Passed triple xs s to
         → Leapt (among (map triple xs)) p s bound
-        (fold better None (reachable triple xs s 0))
-    unfolding reach
-    leapt_passed xs ordered =
-        let least = fold better None (reachable triple xs s 0) in
-        leapt_rest xs (reach xs) least (silent_behind xs ordered)
-        (subst (λ ts. Leapt (among ts) p s bound least) (take-map triple (reach xs) xs)
-        (leapt_offers (reachable triple xs s 0)))
-
-    -- the smallest number that the triples reached offer
-    pub leapt_reachable : (xs : List X) → Ordered triple xs → (from : ℕ) → Split triple xs (floor s) from
-        → Leapt (among (map triple xs)) p s bound
-        (fold better None (reachable triple xs s from))
-    leapt_reachable xs ordered from split =
-        leapt_begun xs from _ split (leapt_passed (drop from xs) (ordered_dropped triple xs ordered from))
+        (fold better None (map triple (take (to - from) (drop from xs))))
+    leapt_between xs from to split end =
+        let least = fold better None (map triple (take (to - from) (drop from xs))) in
+        leapt_begun xs from least split
+        (leapt_rest (drop from xs) (to - from) least
+        (λ k d low high. let len = length-drop from xs in
+        let t = triple (get_or (drop from xs) k d) in
+        passed_none s t t
+        (subst (λ x. passed s (triple x) ≡ true) (sym (get_or-drop from xs k d))
+        (end.behind (from + k) d (omega (arith, low)) (omega (arith, high, len))))
+        (before_itself t))
+        (leapt_offers (map triple (take (to - from) (drop from xs)))))

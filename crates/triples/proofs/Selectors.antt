@@ -1,5 +1,5 @@
 -- What a selector tells of a triple, and one seek of a leap. Assumes nothing.
-use Rattle.std.proofs.Common.{◌≡◌, ℕ, ◌≤◌, true, false, Some, None, arith}
+use Rattle.std.proofs.Common.{◌≡◌, ℕ, ◌≤◌, true, false, not, Some, None, arith}
 use Rattle.std.proofs.lemmas.Bool.Decides.{nat_tests}
 use Rattle.triples.specs.declared.position.Position.{Position}
 use Rattle.triples.specs.declared.position.Position.TheVariants.{Subject, Property, Object}
@@ -15,6 +15,15 @@ floor_reached s t h = grind (arith, nat_tests)
 -- from a triple that is passed on, none matches
 pub passed_none : (s : Selector) (t u : Triple) → passed s t ≡ true → before u t ≡ false → matches s u ≡ false
 passed_none s t u h k = grind (arith, nat_tests)
+
+-- behind a triple that is passed, each is
+pub passed_upto : (s : Selector) (t u : Triple) → not (passed s u) ≡ true → before u t ≡ false
+    → not (passed s t) ≡ true
+passed_upto s t u h k = grind (arith, nat_tests)
+
+-- a triple before the floor is not passed
+pub passed_floor : (s : Selector) (t : Triple) → passed s t ≡ true → before t (floor s) ≡ false
+passed_floor s t h = grind (arith, nat_tests)
 
 -- aim
 

@@ -2,7 +2,7 @@
 ghost use Rattle.std.specs.Prelude.{◌≡◌, map};
 ghost use Rattle.triples.specs.Meaning.{among};
 ghost use Rattle.triples.specs.Tables.{Ordered};
-ghost use Rattle.triples.specs.Finding.{Split, offer_of};
+ghost use Rattle.triples.specs.Finding.{Split, Passed, offer_of};
 ghost use Rattle.triples.specs.Seeks.{Sought, Leapt};
 
 use crate::element::Element;
@@ -23,8 +23,8 @@ pub(crate) struct Run<'a, T: Element> {
 fn offer(triple: Triple, position: Position, selector: Selector, bound: u32) -> Option<u32>
     ensures { result ≡ offer_of triple position selector bound }
 {
-    let matching = selector.matches(triple).then_some(triple);
-    offered(matching, position, bound)
+    let number = triple.value(position);
+    (selector.matches(triple) && bound <= number).then_some(number)
 }
 
 impl<'a, T: Element> Run<'a, T> {
@@ -34,6 +34,14 @@ impl<'a, T: Element> Run<'a, T> {
     {
         self.items
             .partition_point(|item| item.triple(self.property) < start)
+    }
+
+    /// How many elements stand for a triple that is not behind all those that match.
+    fn upper_bound(&self, selector: Selector) -> usize
+        ensures { Passed (T.Element.placed self.now.property) self.now.items.now selector result }
+    {
+        self.items
+            .partition_point(|item| !selector.is_passed(item.triple(self.property)))
     }
 
     /// The least triple of the list that matches the selector and is not below the start.
@@ -56,10 +64,10 @@ impl<'a, T: Element> Run<'a, T> {
             position selector bound result }
     {
         let from = self.lower_bound(selector.into());
-        self.items[from..]
+        let to = self.upper_bound(selector);
+        self.items[from..to]
             .iter()
             .map(|item| item.triple(self.property))
-            .take_while(|triple| !selector.is_passed(*triple))
             .fold(None, |least, triple| {
                 least_of(least, offer(triple, position, selector, bound))
             })
