@@ -50,6 +50,7 @@ impl PropertyStore {
     pub fn load(top: u32, table: PropertyTable) -> Result<PropertyStore, Declined<PropertyTable>>
         ensures { TableLoaded top table result }
     {
+        // Kept as a match: a closure for the refusal would take the list from the other case.
         match check(top, &table.directory, &table.pairs) {
             Ok(()) => {
                 let PropertyTable { directory, pairs } = table;

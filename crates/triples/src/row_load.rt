@@ -36,6 +36,7 @@ impl RowStore {
     pub fn load(top: u32, rows: Vec<Triple>) -> Result<RowStore, Declined<Vec<Triple>>>
         ensures { RowsLoaded top rows result }
     {
+        // Kept as a match: a closure for the refusal would take the list from the other case.
         match check(top, &rows) {
             Ok(()) => Ok(RowStore { top, rows }),
             Err(rejection) => Err(Declined {
