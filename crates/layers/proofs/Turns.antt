@@ -15,10 +15,7 @@ use Rattle.triples.specs.Seeks.{Candidate, Least, Sought, Offer, Lowest, Leapt}
 use Rattle.triples.proofs.Seeks.{origin}
 use Rattle.triples.proofs.Selectors.{origin_reached}
 use Rattle.layers.specs.Inverses.{flip, inverse_of, turned}
-use Rattle.layers.specs.declared.inverse.Inverse.{Inverse}
-use Rattle.layers.specs.declared.turn.Turn.{Turn}
 use Rattle.layers.specs.Soundness.{sound_turned}
-use Rattle.layers.specs.Turning.{turned_of, SameLayer}
 use Rattle.layers.specs.Turns.{swapped, object_from}
 use Rattle.layers.proofs.Leaps.{lowest_term}
 
@@ -71,8 +68,11 @@ object_reached : (q : ℕ) (s : Selector) (start : Triple) (bound x : ℕ)
 object_reached q s start bound x e h = grind (arith, nat_tests)
 
 -- the turned triples that match s, and the triples that match w which they come from
-module _ (m : Meaning) (p q : ℕ) (s w : Selector) (one : 1 ≤ p)
-    (asked : swapped p q m.top s ≡ Some w) where
+module _ (m : Meaning) (p q : ℕ) (s w : Selector) (one : 1 ≤ p) {top : ℕ} (high : top ≡ m.top)
+    (answer : Some w ≡ swapped p q top s) where
+  asked : swapped p q m.top s ≡ Some w
+  asked = sym (answer ∙ ap (λ n. swapped p q n s) high)
+
   -- t is turned and matches s: what it comes from is in m and matches w
   record Origin (t : Triple) : Type 0 where
     pub held : m.has (flip p t) ≡ true
@@ -167,7 +167,10 @@ module _ (m : Meaning) (p q : ℕ) (s w : Selector) (one : 1 ≤ p)
   -- seek
 
   module _ (start : Triple) (known : 1 ≤ s.subject) (bound : ℕ)
-      (low : object_from q s.subject start ≡ Some bound) where
+      (from : Some bound ≡ object_from q s.subject start) where
+    low : object_from q s.subject start ≡ Some bound
+    low = sym {a = Some bound} from
+
     offer_of_candidate : (t : Triple) → Candidate (turned p q m) s start t
         → Offer m.has Subject w bound t.object
     offer_of_candidate t c =
@@ -209,19 +212,8 @@ module _ (m : Meaning) (p q : ℕ) (s w : Selector) (one : 1 ≤ p)
     sought_object same x l =
         least_subject x (subst (λ (n : Meaning). Lowest n.has Subject w bound x) same l)
 
--- a layer that stands for what another one stands for has its turned triples
-pub same_turned : {S : Type 0} {meaning : S → Meaning} {old new : Inverse S} → SameLayer meaning old new
-    → turned_of meaning new ≡ turned_of meaning old
-same_turned {meaning = meaning} {old = old} {new = new} s =
-    ap (λ (t : Turn). turned t.property t.inverse (meaning new.below)) s.turn
-    ∙ ap (turned old.turn.property old.turn.inverse) s.below
-
 -- the least number at a position of a turned triple is a term
-pub turned_term : {S : Type 0} (meaning : S → Meaning) (layer : Inverse S) (p : Position) (s : Selector)
-    (from n : ℕ) → Sound (meaning layer.below) → Lowest (turned_of meaning layer) p s from n
-    → (1 ≤ n) × (n ≤ largest_top)
-turned_term meaning layer p s from n sound =
-    let m = meaning layer.below in
-    let t = layer.turn in
-    lowest_term (record { top = m.top; has = turned_of meaning layer }) p s from n
-    (sound_turned t.property t.inverse m t.named sound)
+pub turned_term : (m : Meaning) (p q : ℕ) (k : Position) (s : Selector) (from n : ℕ) → 1 ≤ q → Sound m
+    → Lowest (turned p q m) k s from n → (1 ≤ n) × (n ≤ largest_top)
+turned_term m p q k s from n one sound =
+    lowest_term (record { top = m.top; has = turned p q m }) k s from n (sound_turned p q m one sound)

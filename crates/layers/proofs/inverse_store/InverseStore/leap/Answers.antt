@@ -12,9 +12,9 @@ returns-clause-answer g c =
     let has = (g.S.Store.meaning c.args.self.now.below).has in
     let turn = c.args.self.now.turn in
     let set = turned turn.property turn.inverse (g.S.Store.meaning c.args.self.now.below) in
-    let r = c.leap_turned-turned.result in
+    let r = c.leap-turned.result in
     subst (Leapt (union has set) c.args.position c.args.selector c.args.bound) (sym (c.least_of.ensures ∙ least_lesser c.leap-held.result r))
     (leapt_union has set c.args.position c.args.selector c.args.bound c.leap-held.result r c.leap-held.ensures.answer
     (subst (λ (A : Triple → Bool). Leapt A c.args.position c.args.selector c.args.bound r)
     (ap (turned turn.property turn.inverse) c.leap-held.ensures.same)
-    c.leap_turned-turned.ensures.answer))
+    c.leap-turned.ensures.answer))

@@ -12,9 +12,9 @@ returns-clause-answer g c =
     let has = (g.S.Store.meaning c.args.self.now.below).has in
     let turn = c.args.self.now.turn in
     let set = turned turn.property turn.inverse (g.S.Store.meaning c.args.self.now.below) in
-    let r = c.seek_turned-turned.result in
+    let r = c.seek-turned.result in
     subst (Sought (union has set) c.args.selector c.args.start) (sym (c.least_of.ensures ∙ least_earlier c.seek-held.result r))
     (sought_union has set c.args.selector c.args.start c.seek-held.result r c.seek-held.ensures.answer
     (subst (λ (A : Triple → Bool). Sought A c.args.selector c.args.start r)
     (ap (turned turn.property turn.inverse) c.seek-held.ensures.same)
-    c.seek_turned-turned.ensures.answer))
+    c.seek-turned.ensures.answer))
