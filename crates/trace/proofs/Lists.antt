@@ -14,8 +14,8 @@ count_none y xs h =
     (λ x k. let e = cond-false {A = ℕ} (eqb y x) 1 0 (ne_eqb y x k) in omega arith) xs h) in
     omega arith
 
-count_twice : (y : ℕ) (xs : List ℕ) (i d : ℕ) → i + 1 < length xs → y ≡ get_or xs i d → y ≡ get_or xs (i + 1) d
-    → 2 ≤ count_by (eqb y) xs
+count_twice : (y : ℕ) (xs : List ℕ) (i d : ℕ) → i + 1 < length xs → y ≡ get_or xs i d
+    → y ≡ get_or xs (i + 1) d → 2 ≤ count_by (eqb y) xs
 count_twice y xs i d h e f =
     let one : i < length xs = omega arith in
     let here = sum_by_more (λ x. cond (eqb y x) 1 0) xs i d one in

@@ -25,7 +25,8 @@ marked_none n y =
 marked-set : (marks : List Bool) (y z : ℕ) → y < length marks → marked marks z ≡ true
     → marked (set marks y true) z ≡ true
 marked-set marks y z l h =
-    ⊎_elim (λ e. subst (λ k. marked (set marks y true) k ≡ true) (sym e) (get_or-set_same marks y true false l))
+    ⊎_elim
+    (λ e. subst (λ k. marked (set marks y true) k ≡ true) (sym e) (get_or-set_same marks y true false l))
     (λ ne. get_or-set_other marks y z true false ne ∙ h) (cases_eq z y)
 
 unmarked-set : (marks : List Bool) (y : ℕ) → y < length marks → marked marks y ≡ false
@@ -127,7 +128,11 @@ module _ {P : ℕ → Type 0} {old new : List Bool} {xs : List ℕ} (g : Gathere
             after = marked-set new y z l h.after;
           })
           xs g.each)
-          (record { wanted = inr refl; before = unmarked_before; after = get_or-set_same new y true false l });
+          (record {
+            wanted = inr refl;
+            before = unmarked_before;
+            after = get_or-set_same new y true false l;
+          });
       once = once_push;
       all = λ z. ⊎_elim (λ h. marked-set new y z l (g.all z h))
           (λ e. subst (λ k. marked (set new y true) k ≡ true) (sym e) (get_or-set_same new y true false l));

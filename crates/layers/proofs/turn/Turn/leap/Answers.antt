@@ -8,14 +8,16 @@ use Rattle.layers.proofs.turn.Turn.leap.Goals as goal
 
 pub returns-in-Subject-clause-answer : goal.returns-in-Subject-clause-answer
 returns-in-Subject-clause-answer g c =
-    leapt_subject (g.S.Store.meaning c.args.below.now) c.args.self.property c.args.self.inverse c.args.selector
-    c.in_ok-swapped.swapped c.args.self.known c.top-top.ensures.answer c.in_ok-swapped.ensures c.args.bound
+    let turn = c.args.self in
+    leapt_subject (g.S.Store.meaning c.args.below.now) turn.property turn.inverse c.args.selector
+    c.in_ok-swapped.swapped turn.known c.top-top.ensures.answer c.in_ok-swapped.ensures c.args.bound
     c.top-top.ensures.same c.in-Subject.is c.leap.result c.leap.ensures.answer
 
 pub returns-in-Object-clause-answer : goal.returns-in-Object-clause-answer
 returns-in-Object-clause-answer g c =
-    leapt_object (g.S.Store.meaning c.args.below.now) c.args.self.property c.args.self.inverse c.args.selector
-    c.in_ok-swapped.swapped c.args.self.known c.top-top.ensures.answer c.in_ok-swapped.ensures c.args.bound
+    let turn = c.args.self in
+    leapt_object (g.S.Store.meaning c.args.below.now) turn.property turn.inverse c.args.selector
+    c.in_ok-swapped.swapped turn.known c.top-top.ensures.answer c.in_ok-swapped.ensures c.args.bound
     c.top-top.ensures.same c.in-Object.is c.leap-in-Object.result c.leap-in-Object.ensures.answer
 
 pub returns-in-Property-2-clause-answer : goal.returns-in-Property-2-clause-answer

@@ -19,6 +19,6 @@ pub returns-clause-answer : goal.returns-clause-answer
 returns-clause-answer g c =
     let turn = c.args.self in
     sought_object (g.S.Store.meaning c.args.below.now) turn.property turn.inverse c.args.selector
-    c.in_ok-swapped.swapped turn.known c.top-top.ensures.answer c.in_ok-swapped.ensures c.args.start c.requires
-    c.in_ok-bound.bound c.in_ok-bound.ensures c.top-top.ensures.same c.in_ok-object.object
+    c.in_ok-swapped.swapped turn.known c.top-top.ensures.answer c.in_ok-swapped.ensures c.args.start
+    c.requires c.in_ok-bound.bound c.in_ok-bound.ensures c.top-top.ensures.same c.in_ok-object.object
     c.in_ok-object.ensures.answer
