@@ -1,7 +1,6 @@
 -- How the turned triples of a store are found by asking for those that they come from. Assumes nothing.
-use Rattle.std.proofs.Common.{◌≡◌, ℕ, ◌≤◌, Bool, true, false, eqb, leb, is_some, Some, None, Option}
+use Rattle.std.proofs.Common.{◌≡◌, ℕ, ◌≤◌, Bool, true, false, leb, is_some, Some, None, Option}
 use Rattle.std.proofs.Common.{sym, refl, ap, ◌∙◌, subst, arith}
-use Rattle.std.proofs.lemmas.Bool.{and_parts, and_from, eqb-true, eq-eqb}
 use Rattle.std.proofs.lemmas.Bool.Decides.{nat_tests}
 use Rattle.std.specs.Bool.{then_some}
 use Rattle.triples.specs.declared.position.Position.{Position}
@@ -14,7 +13,7 @@ use Rattle.triples.specs.Selectors.{matches}
 use Rattle.triples.specs.Seeks.{Candidate, Least, Sought, Offer, Lowest, Leapt}
 use Rattle.triples.proofs.Seeks.{origin}
 use Rattle.triples.proofs.Selectors.{origin_reached}
-use Rattle.layers.specs.Inverses.{flip, inverse_of, turned}
+use Rattle.layers.specs.Inverses.{flip, turned}
 use Rattle.layers.specs.Soundness.{sound_turned}
 use Rattle.layers.specs.Turns.{swapped, object_from}
 use Rattle.layers.proofs.Leaps.{lowest_term}
@@ -81,20 +80,17 @@ module _ (m : Meaning) (p q : ℕ) (s w : Selector) (one : 1 ≤ p) {top : ℕ} 
 
   origin_from_turned : (t : Triple) → turned p q m t ≡ true → matches s t ≡ true → Origin t
   origin_from_turned t h k =
-      let parts = and_parts (eqb t.property q) (m.has (flip p t))
-      (and_parts (leb q m.top) (inverse_of p q m t) h).1 in
-      let named = eqb-true t.property q parts.0 in
+      let named : t.property ≡ q = grind (arith, nat_tests) in
       record {
-        held = parts.1;
+        held = grind (arith, nat_tests);
         fit = swapped_matches p q m.top s w t asked named k;
         named = named;
       }
 
   turned_held : (u : Triple) → m.has u ≡ true → matches w u ≡ true → turned p q m (flip q u) ≡ true
   turned_held u h k =
-      and_from (leb q m.top) (inverse_of p q m (flip q u)) (swapped_small p q m.top s w asked)
-      (and_from (eqb q q) (m.has (flip p (flip q u))) (eq-eqb q q refl)
-      (ap m.has (swapped_property p q m.top s w u asked one k) ∙ h))
+      let back = ap m.has (swapped_property p q m.top s w u asked one k) ∙ h in
+      grind (arith, nat_tests, back, swapped_small p q m.top s w asked)
 
   turned_fit : (u : Triple) → matches w u ≡ true → matches s (flip q u) ≡ true
   turned_fit u k = swapped_back p q m.top s w u asked k

@@ -20,6 +20,7 @@ impl<S: Store> Store for Inverse<S> {
         self.below.top()
     }
 
+    // Kept as two bodies: one function for both would take two closures, and be longer than they are.
     fn seek(&mut self, selector: Selector, start: Triple) -> Option<Triple> {
         let held = self.below.seek(selector, start);
         let turned = self.turn.seek(&mut self.below, selector, start);

@@ -38,6 +38,7 @@ impl Turn {
         }
     }
 
+    // Kept as arguments: they are those of a store's own calls, which are published.
     // Kept in each clause: a store may move things about when asked; no invariant tells what it meant before.
     /// The smallest number from the bound on at the position of a turned triple that matches the selector.
     pub(crate) fn leap<S: Store>(

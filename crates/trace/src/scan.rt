@@ -19,6 +19,7 @@ pub fn scan<S: Store>(
     ensures answer { IfOk result (λ v. Scanned (S.Store.meaning store.old).has selector v.items) }
     ensures same { S.Store.meaning store.new ≡ S.Store.meaning store.old }
 {
+    // Kept as a loop: where memory is wanting, `collect` tells nothing of the store, whose meaning stays.
     let mut found = Vec::new(heap);
     for triple in Matches::new(store, selector, ORIGIN) {
         found.push(triple)?;

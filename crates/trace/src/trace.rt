@@ -19,6 +19,7 @@ pub fn trace<S: Store>(heap: Global, store: &mut S, term: u32) -> Result<Vec<u32
     let mut seen = vec![in heap; false; places]?;
     let mut front = vec![in heap; term]?;
     let mut reached = Vec::new(heap);
+    // Kept as a loop: an iterator of levels would hold the store and the marks, and each level may fail.
     // Invariant: for some number of steps, `reached` is what so many or fewer lead to, and
     // `front` what no fewer do.
     'levels: while !front.is_empty() {
