@@ -13,6 +13,7 @@ pub trait Catalogue {
     /// with an entry that is not so is not accepted.
     ghost proper: { (c : Self) (n : ℕ) → Proper (entries c n) };
 
+    // Kept as a pair: a lookup is published as a kind and a signed value, 0 for a kind that has none.
     /// The kind and the value of a number, whichever it is. A catalogue may move things about inside
     /// itself to answer; what it says of each number stays as it was.
     fn lookup(&mut self, number: u32) -> (Kind, i32)

@@ -16,7 +16,7 @@ pub enum Kind {
     Integer = 3,
 }
 
-// Kept as methods: callers name them, and `From` and `TryFrom` beside them would say the same twice.
+// Kept as methods: both are published, and a published function stays.
 impl Kind {
     /// The published number of the kind.
     pub fn number(self) -> u32

@@ -17,6 +17,7 @@ impl Listed {
     pub fn load(records: Vec<Record>) -> Result<Listed, Declined<Vec<Record>>>
         ensures { Loaded records result }
     {
+        // Kept as a match: a closure for the refusal would take the list from the other case.
         match check(&records) {
             Ok(()) => Ok(Listed { records }),
             Err(rejection) => Err(Declined {

@@ -1,7 +1,6 @@
 //! Which lists are taken, and why the others are refused.
 use catalogue::listed::Listed;
 use catalogue::record::Record;
-use refusal::rejection::Rejection;
 use std::alloc::{AllocError, Global};
 use std::test::Fail;
 
@@ -44,11 +43,6 @@ pub(crate) fn taken(records: Vec<Record>) -> Result<Listed, Fail> {
     Listed::load(records).map_err(|_| Fail::new("refused"))
 }
 
-/// The number of the refusal, and the place.
-fn said(rejection: Rejection) -> (u32, usize) {
-    (rejection.refusal.number(), rejection.place)
-}
-
 #[test]
 fn lists_are_taken_or_refused_as_in_the_table(rt: HostRuntime) -> Result<(), Fail> {
     for (pairs, refused) in LISTS {
@@ -57,7 +51,7 @@ fn lists_are_taken_or_refused_as_in_the_table(rt: HostRuntime) -> Result<(), Fai
                 assert_eq!(rt; listed.len(), pairs.len());
                 (listed.into_records(), None)
             }
-            Err(declined) => (declined.given, Some(said(declined.rejection))),
+            Err(declined) => (declined.given, Some(declined.rejection.into())),
         };
         assert_eq!(rt; outcome, refused);
         assert_eq!(rt; records.as_slice(), list(rt.alloc(), pairs)?.as_slice());
@@ -79,7 +73,7 @@ fn a_million_and_one_are_refused_before_a_bad_record_is(rt: HostRuntime) -> Resu
     match Listed::load(vec![in rt.alloc(); bad; 1_000_001]?) {
         Ok(_) => Err(Fail::new("taken")),
         Err(declined) => {
-            assert_eq!(rt; said(declined.rejection), (1, 0));
+            assert_eq!(rt; <(u32, usize)>::from(declined.rejection), (1, 0));
             assert_eq!(rt; declined.given.len(), 1_000_001);
             Ok(())
         }

@@ -33,6 +33,9 @@ const IN_LINE: [(u32, Kind, i32); 9] = [
     (4_294_967_295, Kind::Name, 0),
 ];
 
+/// Each kind with its published number.
+const NUMBERS: [(Kind, u32); 3] = [(Kind::Name, 1), (Kind::Text, 2), (Kind::Integer, 3)];
+
 /// The catalogue answers as the table says, and again when it is asked anew.
 fn answers<C: Catalogue>(catalogue: &mut C, table: &[(u32, Kind, i32)]) -> bool {
     (0..2).all(|_| {
@@ -58,4 +61,11 @@ fn an_empty_list_has_names_only(rt: HostRuntime) -> Result<(), Fail> {
 #[test]
 fn integers_stand_in_a_row(rt: HostRuntime) {
     assert!(rt; answers(&mut Inline, &IN_LINE));
+}
+
+#[test]
+fn each_kind_has_its_published_number(rt: HostRuntime) {
+    for (kind, number) in NUMBERS {
+        assert_eq!(rt; kind.number(), number);
+    }
 }

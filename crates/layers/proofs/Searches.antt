@@ -1,6 +1,6 @@
 -- A search among the matches of a store for one that is not left out. Assumes nothing.
-use Rattle.std.proofs.Common.{◌≡◌, Bool, true, false, not, List, [], ◌∷◌, Option, None, Some, IfSome, Bor, sym}
-use Rattle.std.proofs.Common.{refl, ◌∙◌, subst, subst₂}
+use Rattle.std.proofs.Common.{◌≡◌, Bool, true, false, not, List, [], ◌∷◌, Option, None, Some, IfSome, Bor}
+use Rattle.std.proofs.Common.{sym, refl, ◌∙◌, subst, subst₂}
 use Rattle.std.proofs.lemmas.Bool.{not-true, not-false}
 use Rattle.std.specs.Fn.{Mut, CalledAt}
 use Rattle.std.specs.Iterator.{Yields, FindsItem}
@@ -50,7 +50,8 @@ module _ {S : Type 0} (meaning : S → Meaning) (first : Matches S) (m : Meaning
       (k : (x : Triple) (b : Bool) (q : F)
       → CalledAt calls f x b q → (q ≡ f) × (b ≡ not (among gone x))) where
     walked_all : (xs : List Triple) {s t : Matches S} {p q : F} → p ≡ f → Walked s
-        → Yields (Advances meaning) s xs t → FoldsTo (λ u x v. CalledAt calls u x false v) p xs q → Walked t × (q ≡ f)
+        → Yields (Advances meaning) s xs t → FoldsTo (λ u x v. CalledAt calls u x false v) p xs q
+        → Walked t × (q ≡ f)
     walked_all [] e w y o = (subst Walked y w, sym o ∙ e)
     walked_all (x ∷ xs) e w (_, step, more) (v, call, others) =
         let c = k x false v (subst (λ u. CalledAt calls u x false v) e call) in

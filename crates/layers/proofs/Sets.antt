@@ -1,11 +1,10 @@
 -- Laws of lists in which no triple stands twice. Assumes nothing.
-use Rattle.std.proofs.Common.{◌≡◌, ℕ, ◌+◌, ◌<◌, ◌≤◌, Bool, true, false, cond, not, ◌&&◌, ◌||◌, leb}
+use Rattle.std.proofs.Common.{◌≡◌, ℕ, ◌+◌, ◌<◌, Bool, true, false, cond, not, ◌&&◌, ◌||◌, leb}
 use Rattle.std.proofs.Common.{List, [], ◌∷◌, ◌++◌, length, get_or, is_some, Some, Option, sym, refl, ap}
-use Rattle.std.proofs.Common.{◌∙◌, subst, ⊎_elim, arith}
+use Rattle.std.proofs.Common.{◌∙◌, subst, arith}
 use Rattle.std.proofs.lemmas.Iterator.Adapters.{position_from-zero}
 use Rattle.std.proofs.lemmas.List.Quantifiers.{position-Some}
 use Rattle.std.proofs.lemmas.List.Sums.{sum_by-cons, sum_by-swap_remove, sum_by_push}
-use Rattle.std.proofs.lemmas.Bool.{cases_Bool, leb-false}
 use Rattle.std.proofs.lemmas.Bool.Decides.{nat_tests}
 use Rattle.std.specs.List.{list_any, position, position_from, swap_remove}
 use Rattle.triples.specs.declared.triple.Triple.{Triple}
@@ -25,20 +24,12 @@ among-counted (x ∷ xs) t =
 
 none_among : (xs : List Triple) (t : Triple) → among xs t ≡ false → occurrences xs t ≡ 0
 none_among xs t h =
-    let low = leb-false 1 (occurrences xs t) (sym (among-counted xs t) ∙ h) in omega (arith, low)
+    grind (arith, nat_tests, among-counted xs t)
 
 pub once_push : (xs : List Triple) (t : Triple) → Once xs → among xs t ≡ false → Once (xs ++ t ∷ [])
 once_push xs t o h u =
     let more = sum_by_push (λ x. cond (same x u) 1 0) xs t in
-    ⊎_elim
-    (λ e. let none = none_among xs u (ap (among xs) (sym (same_is t u e)) ∙ h) in
-    grind (arith, nat_tests))
-    (λ e. let low = o u in grind (arith, nat_tests))
-    (cases_Bool (same t u))
-
-one_less : (b : Bool) (k n : ℕ) → k + cond b 1 0 ≡ n → n ≤ 1 → leb 1 k ≡ (leb 1 n && not b)
-one_less true k n e h = grind (arith, nat_tests)
-one_less false k n e h = grind (arith, nat_tests)
+    grind (arith, nat_tests, more, o u, none_among xs u, same_is t u)
 
 -- the last triple moved over the one at i, which is t: one triple fewer, and t is gone
 module _ (xs : List Triple) (i : ℕ) (t : Triple) (once : Once xs) (inside : i < length xs)
@@ -53,9 +44,14 @@ module _ (xs : List Triple) (i : ℕ) (t : Triple) (once : Once xs) (inside : i 
 
   among_less : (u : Triple) → among (swap_remove xs i t) u ≡ (among xs u && not (same t u))
   among_less u =
-      among-counted (swap_remove xs i t) u
-      ∙ one_less (same t u) (occurrences (swap_remove xs i t) u) (occurrences xs u) (less u) (once u)
-      ∙ ap (λ b. b && not (same t u)) (sym (among-counted xs u))
+      grind (
+        arith,
+        nat_tests,
+        among-counted (swap_remove xs i t) u,
+        among-counted xs u,
+        less u,
+        once u,
+      )
 
 pub any_among : (xs : List Triple) (t : Triple) → list_any (λ x. same x t) xs ≡ among xs t
 any_among [] t = refl
@@ -64,11 +60,7 @@ any_among (x ∷ xs) t = ap (λ b. same x t || b) (any_among xs t)
 position_any : {X : Type 0} (p : X → Bool) (i : ℕ) (xs : List X)
     → is_some (position_from p i xs) ≡ list_any p xs
 position_any p i [] = refl
-position_any p i (x ∷ xs) =
-    elim (p x) as (λ b. is_some (cond b (Some i) (position_from p (i + 1) xs)) ≡ (b || list_any p xs)) [
-      | true ↦ refl
-      | false ↦ position_any p (i + 1) xs
-    ]
+position_any p i (x ∷ xs) = grind (arith, nat_tests, position_any p (i + 1) xs)
 
 -- a triple has a place exactly if it is an element
 pub placed_among : (xs : List Triple) (t : Triple) {r : Option ℕ} → r ≡ position (λ x. same x t) xs

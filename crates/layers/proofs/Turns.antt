@@ -1,7 +1,6 @@
 -- How the turned triples of a store are found by asking for those that they come from. Assumes nothing.
-use Rattle.std.proofs.Common.{◌≡◌, ℕ, ◌≤◌, Bool, true, false, eqb, leb, is_some, Some, None, Option}
+use Rattle.std.proofs.Common.{◌≡◌, ℕ, ◌≤◌, Bool, true, false, leb, is_some, Some, None, Option}
 use Rattle.std.proofs.Common.{sym, refl, ap, ◌∙◌, subst, arith}
-use Rattle.std.proofs.lemmas.Bool.{and_parts, and_from, eqb-true, eq-eqb}
 use Rattle.std.proofs.lemmas.Bool.Decides.{nat_tests}
 use Rattle.std.specs.Bool.{then_some}
 use Rattle.triples.specs.declared.position.Position.{Position}
@@ -14,11 +13,8 @@ use Rattle.triples.specs.Selectors.{matches}
 use Rattle.triples.specs.Seeks.{Candidate, Least, Sought, Offer, Lowest, Leapt}
 use Rattle.triples.proofs.Seeks.{origin}
 use Rattle.triples.proofs.Selectors.{origin_reached}
-use Rattle.layers.specs.Inverses.{flip, inverse_of, turned}
-use Rattle.layers.specs.declared.inverse.Inverse.{Inverse}
-use Rattle.layers.specs.declared.turn.Turn.{Turn}
+use Rattle.layers.specs.Inverses.{flip, turned}
 use Rattle.layers.specs.Soundness.{sound_turned}
-use Rattle.layers.specs.Turning.{turned_of, SameLayer}
 use Rattle.layers.specs.Turns.{swapped, object_from}
 use Rattle.layers.proofs.Leaps.{lowest_term}
 
@@ -71,8 +67,11 @@ object_reached : (q : ℕ) (s : Selector) (start : Triple) (bound x : ℕ)
 object_reached q s start bound x e h = grind (arith, nat_tests)
 
 -- the turned triples that match s, and the triples that match w which they come from
-module _ (m : Meaning) (p q : ℕ) (s w : Selector) (one : 1 ≤ p)
-    (asked : swapped p q m.top s ≡ Some w) where
+module _ (m : Meaning) (p q : ℕ) (s w : Selector) (one : 1 ≤ p) {top : ℕ} (high : top ≡ m.top)
+    (answer : Some w ≡ swapped p q top s) where
+  asked : swapped p q m.top s ≡ Some w
+  asked = sym (answer ∙ ap (λ n. swapped p q n s) high)
+
   -- t is turned and matches s: what it comes from is in m and matches w
   record Origin (t : Triple) : Type 0 where
     pub held : m.has (flip p t) ≡ true
@@ -81,20 +80,17 @@ module _ (m : Meaning) (p q : ℕ) (s w : Selector) (one : 1 ≤ p)
 
   origin_from_turned : (t : Triple) → turned p q m t ≡ true → matches s t ≡ true → Origin t
   origin_from_turned t h k =
-      let parts = and_parts (eqb t.property q) (m.has (flip p t))
-      (and_parts (leb q m.top) (inverse_of p q m t) h).1 in
-      let named = eqb-true t.property q parts.0 in
+      let named : t.property ≡ q = grind (arith, nat_tests) in
       record {
-        held = parts.1;
+        held = grind (arith, nat_tests);
         fit = swapped_matches p q m.top s w t asked named k;
         named = named;
       }
 
   turned_held : (u : Triple) → m.has u ≡ true → matches w u ≡ true → turned p q m (flip q u) ≡ true
   turned_held u h k =
-      and_from (leb q m.top) (inverse_of p q m (flip q u)) (swapped_small p q m.top s w asked)
-      (and_from (eqb q q) (m.has (flip p (flip q u))) (eq-eqb q q refl)
-      (ap m.has (swapped_property p q m.top s w u asked one k) ∙ h))
+      let back = ap m.has (swapped_property p q m.top s w u asked one k) ∙ h in
+      grind (arith, nat_tests, back, swapped_small p q m.top s w asked)
 
   turned_fit : (u : Triple) → matches w u ≡ true → matches s (flip q u) ≡ true
   turned_fit u k = swapped_back p q m.top s w u asked k
@@ -167,7 +163,10 @@ module _ (m : Meaning) (p q : ℕ) (s w : Selector) (one : 1 ≤ p)
   -- seek
 
   module _ (start : Triple) (known : 1 ≤ s.subject) (bound : ℕ)
-      (low : object_from q s.subject start ≡ Some bound) where
+      (from : Some bound ≡ object_from q s.subject start) where
+    low : object_from q s.subject start ≡ Some bound
+    low = sym {a = Some bound} from
+
     offer_of_candidate : (t : Triple) → Candidate (turned p q m) s start t
         → Offer m.has Subject w bound t.object
     offer_of_candidate t c =
@@ -209,19 +208,8 @@ module _ (m : Meaning) (p q : ℕ) (s w : Selector) (one : 1 ≤ p)
     sought_object same x l =
         least_subject x (subst (λ (n : Meaning). Lowest n.has Subject w bound x) same l)
 
--- a layer that stands for what another one stands for has its turned triples
-pub same_turned : {S : Type 0} {meaning : S → Meaning} {old new : Inverse S} → SameLayer meaning old new
-    → turned_of meaning new ≡ turned_of meaning old
-same_turned {meaning = meaning} {old = old} {new = new} s =
-    ap (λ (t : Turn). turned t.property t.inverse (meaning new.below)) s.turn
-    ∙ ap (turned old.turn.property old.turn.inverse) s.below
-
 -- the least number at a position of a turned triple is a term
-pub turned_term : {S : Type 0} (meaning : S → Meaning) (layer : Inverse S) (p : Position) (s : Selector)
-    (from n : ℕ) → Sound (meaning layer.below) → Lowest (turned_of meaning layer) p s from n
-    → (1 ≤ n) × (n ≤ largest_top)
-turned_term meaning layer p s from n sound =
-    let m = meaning layer.below in
-    let t = layer.turn in
-    lowest_term (record { top = m.top; has = turned_of meaning layer }) p s from n
-    (sound_turned t.property t.inverse m t.named sound)
+pub turned_term : (m : Meaning) (p q : ℕ) (k : Position) (s : Selector) (from n : ℕ) → 1 ≤ q → Sound m
+    → Lowest (turned p q m) k s from n → (1 ≤ n) × (n ≤ largest_top)
+turned_term m p q k s from n one sound =
+    lowest_term (record { top = m.top; has = turned p q m }) k s from n (sound_turned p q m one sound)

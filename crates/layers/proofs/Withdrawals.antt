@@ -1,11 +1,12 @@
 -- Laws of a store without some triples. Assumes nothing.
-use Rattle.std.proofs.Common.{◌≡◌, ℕ, ◌+◌, ◌≤◌, Bool, true, false, cond, not, ◌&&◌, ◌||◌}
+use Rattle.std.proofs.Common.{◌≡◌, ℕ, ◌+◌, ◌≤◌, Bool, true, false, cond, not}
 use Rattle.std.proofs.Common.{ltb, List, [], ◌∷◌, ◌++◌, length, is_ok, is_some, Some, None, Option, Result}
 use Rattle.std.proofs.Common.{sym, refl, ap, ◌∙◌, ⊎_elim, arith}
 use mathlib.Core.Path.{fun_ext}
-use Rattle.std.proofs.lemmas.Bool.{true≢false, cases_Bool, cases_eq, both_ways, not-true, not_from_false}
-use Rattle.std.proofs.lemmas.Bool.{and_parts, and_from, cond-true, cond-false}
-use Rattle.refusal.specs.declared.refusal.Refusal.TheVariants.{AlreadyWithdrawn, NotStored, WithdrawnFull}
+use Rattle.std.proofs.lemmas.Bool.{true≢false, cases_eq, not_from_false}
+use Rattle.std.proofs.lemmas.Bool.Decides.{nat_tests}
+use Rattle.std.proofs.lemmas.Bool.{and_parts, and_from}
+use Rattle.refusal.specs.declared.refusal.Refusal.TheVariants.{WithdrawnFull}
 use Rattle.refusal.specs.declared.rejection.Rejection.{Rejection}
 use Rattle.triples.specs.declared.position.Position.{Position}
 use Rattle.triples.specs.declared.selector.Selector.{Selector}
@@ -24,20 +25,11 @@ use Rattle.layers.specs.Withdrawals.{without, amended, outcome, Withdraws}
 use Rattle.layers.proofs.Leaps.{select_back_value, lowest_term}
 use Rattle.layers.proofs.Sets.{among_push}
 
-and_not_or : (held gone asked : Bool) → (held && not (gone || asked)) ≡ cond asked false (held && not gone)
-and_not_or true true true = refl
-and_not_or true true false = refl
-and_not_or true false true = refl
-and_not_or true false false = refl
-and_not_or false gone true = refl
-and_not_or false gone false = refl
-
 without_push : (m : Meaning) (gone : List Triple) (t : Triple)
     → without m (gone ++ t ∷ []) ≡ amended (without m gone) t false
 without_push m gone t =
     ap (λ (h : Triple → Bool). record { top = m.top; has = h })
-    (fun_ext (λ u. ap (λ b. m.has u && not b) (among_push gone t u)
-    ∙ and_not_or (m.has u) (among gone u) (same t u)))
+    (fun_ext (λ u. grind (arith, nat_tests, among_push gone t u)))
 
 without_added : (m : Meaning) (gone : List Triple) (t : Triple) (b : Bool)
     → without m (cond b (gone ++ t ∷ []) gone) ≡ cond b (amended (without m gone) t false) (without m gone)
@@ -50,10 +42,7 @@ pub withdraws_room : (m : Meaning) (gone : List Triple) (t : Triple) (r : Result
     → is_ok r ≡ ltb (length gone) most_withdrawn → r ≡ outcome (cond (is_ok r) None (Some WithdrawnFull))
     → later ≡ cond (is_ok r) (gone ++ t ∷ []) gone → Withdraws m gone t r later
 withdraws_room m gone t r later new held room answer list = record {
-  answer = answer ∙ ap outcome
-      (ap (λ b. cond b None (Some WithdrawnFull)) room
-      ∙ sym (cond-false (among gone t) (Some AlreadyWithdrawn) _ new
-      ∙ cond-true (m.has t) _ (Some NotStored) held));
+  answer = grind (arith, nat_tests);
   list = list;
   meaning = ap (without m) list ∙ without_added m gone t (is_ok r);
 }
@@ -97,13 +86,7 @@ module _ (m : Meaning) (gone : List Triple) (s : Selector) (start from : Triple)
 
   different : (t u : Triple) → among gone t ≡ true → Candidate (without m gone).has s start u
       → same t u ≡ false
-  different t u away c =
-      ⊎_elim
-      (λ e. absurd (both_ways (among gone u)
-      (not-true (among gone u) (and_parts (m.has u) (not (among gone u)) c.held).1)
-      (ap (among gone) (sym (same_is t u e)) ∙ away)))
-      (λ e. e)
-      (cases_Bool (same t u))
+  different t u away c = grind (arith, nat_tests, same_is t u, c.held)
 
 pub passed_more : (m : Meaning) (gone : List Triple) (s : Selector) (start from t : Triple)
     → Passed m gone s start from → Least m.has s from t → among gone t ≡ true
@@ -113,9 +96,6 @@ passed_more m gone s start from t p l away = record {
   none = λ u c. upto_behind t u (l.first u (candidate_below m gone s start from p u c))
       (different m gone s start from t u away c);
 }
-
-pub same_without : (m n : Meaning) (xs ys : List Triple) → m ≡ n → xs ≡ ys → without m xs ≡ without n ys
-same_without m n xs ys e h = ap (λ (z : Meaning). without z xs) e ∙ ap (without n) h
 
 -- leap
 

@@ -5,5 +5,4 @@ pub mod Withdrawals  -- a store without some triples, and how these change
 pub mod Inverses  -- a store with the inverse of a property
 pub mod Inverting  -- what making such a layer answers
 pub mod Turns  -- how a turned triple is asked for
-pub mod Turning  -- the turned triples of a layer
 pub mod Soundness  -- a layer over a sound store is sound

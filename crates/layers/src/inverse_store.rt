@@ -20,15 +20,16 @@ impl<S: Store> Store for Inverse<S> {
         self.below.top()
     }
 
+    // Kept as two bodies: one function for both would take two closures, and be longer than they are.
     fn seek(&mut self, selector: Selector, start: Triple) -> Option<Triple> {
         let held = self.below.seek(selector, start);
-        let turned = self.seek_turned(selector, start);
+        let turned = self.turn.seek(&mut self.below, selector, start);
         least_of(held, turned)
     }
 
     fn leap(&mut self, position: Position, selector: Selector, bound: u32) -> Option<u32> {
         let held = self.below.leap(position, selector, bound);
-        let turned = self.leap_turned(position, selector, bound);
+        let turned = self.turn.leap(&mut self.below, position, selector, bound);
         least_of(held, turned)
     }
 }

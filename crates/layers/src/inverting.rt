@@ -34,7 +34,6 @@ impl<S: Store> Inverse<S> {
     pub fn into_below(self) -> S
         ensures { result ≡ self.below }
     {
-        let Inverse { below, turn: _ } = self;
-        below
+        self.below
     }
 }

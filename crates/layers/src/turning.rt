@@ -1,11 +1,10 @@
 //! The turned triples of a store, found by questions to the store.
 ghost use Rattle.std.specs.Prelude.{◌≡◌, ◌≤◌};
-ghost use Rattle.layers.specs.Turning.{turned_of, SameLayer};
+ghost use Rattle.layers.specs.Inverses.{turned};
 ghost use Rattle.layers.specs.Turns.{swapped, object_from};
 ghost use Rattle.triples.specs.Meaning.{first_term};
 ghost use Rattle.triples.specs.Seeks.{Sought, Leapt};
 
-use crate::inverse::Inverse;
 use crate::turn::Turn;
 use std::cmp::Ordering;
 use triples::position::Position;
@@ -38,71 +37,76 @@ impl Turn {
             Ordering::Greater => Some(0),
         }
     }
-}
 
-impl<S: Store> Inverse<S> {
-    /// Which triples to ask the store below for where the selector says which turned ones; none where there
-    /// are none.
-    fn asked(&mut self, selector: Selector) -> Option<Selector>
-        ensures answer { result ≡ swapped self.old.turn.property self.old.turn.inverse
-            (S.Store.meaning self.old.below).top selector }
-        ensures same { SameLayer S.Store.meaning self.old self.new }
-    {
-        let top = self.below.top();
-        self.turn.swapped(selector, top)
-    }
-
+    // Kept as arguments: they are those of a store's own calls, which are published.
+    // Kept in each clause: a store may move things about when asked; no invariant tells what it meant before.
     /// The smallest number from the bound on at the position of a turned triple that matches the selector.
-    pub(crate) fn leap_turned(
-        &mut self,
+    pub(crate) fn leap<S: Store>(
+        self,
+        below: &mut S,
         position: Position,
         selector: Selector,
         bound: u32,
     ) -> Option<u32>
-        ensures answer { Leapt (turned_of S.Store.meaning self.old) position selector bound result }
-        ensures same { SameLayer S.Store.meaning self.old self.new }
+        ensures answer { Leapt (turned self.property self.inverse (S.Store.meaning below.old)) position
+            selector bound result }
+        ensures same { S.Store.meaning below.new ≡ S.Store.meaning below.old }
     {
-        let swapped = self.asked(selector)?;
+        let top = below.top();
+        let swapped = self.swapped(selector, top)?;
         match position {
-            Position::Subject => self.below.leap(Position::Object, swapped, bound),
-            Position::Object => self.below.leap(Position::Subject, swapped, bound),
-            Position::Property if self.turn.inverse < bound => None,
+            Position::Subject => below.leap(Position::Object, swapped, bound),
+            Position::Object => below.leap(Position::Subject, swapped, bound),
+            Position::Property if self.inverse < bound => None,
             Position::Property => {
-                let found = self.below.seek(swapped, ORIGIN);
-                found.is_some().then_some(self.turn.inverse)
+                let found = below.seek(swapped, ORIGIN);
+                found.is_some().then_some(self.inverse)
             }
         }
     }
 
     /// The least turned triple that matches the selector, which names a subject, and is not below the start.
-    fn seek_subject(&mut self, selector: Selector, start: Triple) -> Option<Triple>
+    fn seek_subject<S: Store>(
+        self,
+        below: &mut S,
+        selector: Selector,
+        start: Triple,
+    ) -> Option<Triple>
         requires { first_term ≤ selector.subject }
-        ensures answer { Sought (turned_of S.Store.meaning self.old) selector start result }
-        ensures same { SameLayer S.Store.meaning self.old self.new }
+        ensures answer { Sought (turned self.property self.inverse (S.Store.meaning below.old)) selector
+            start result }
+        ensures same { S.Store.meaning below.new ≡ S.Store.meaning below.old }
     {
-        let bound = self.turn.object_from(selector.subject, start)?;
-        let swapped = self.asked(selector)?;
-        let object = self.below.leap(Position::Subject, swapped, bound)?;
+        let bound = self.object_from(selector.subject, start)?;
+        let top = below.top();
+        let swapped = self.swapped(selector, top)?;
+        let object = below.leap(Position::Subject, swapped, bound)?;
         Some(Triple {
             subject: selector.subject,
-            property: self.turn.inverse,
+            property: self.inverse,
             object,
         })
     }
 
     /// The least turned triple that matches the selector and is not below the start: one of the least subject
     /// from the start's on, or one of the next subject where all of that are below the start.
-    pub(crate) fn seek_turned(&mut self, selector: Selector, start: Triple) -> Option<Triple>
-        ensures answer { Sought (turned_of S.Store.meaning self.old) selector start result }
-        ensures same { SameLayer S.Store.meaning self.old self.new }
+    pub(crate) fn seek<S: Store>(
+        self,
+        below: &mut S,
+        selector: Selector,
+        start: Triple,
+    ) -> Option<Triple>
+        ensures answer { Sought (turned self.property self.inverse (S.Store.meaning below.old)) selector
+            start result }
+        ensures same { S.Store.meaning below.new ≡ S.Store.meaning below.old }
     {
-        let subject = self.leap_turned(Position::Subject, selector, start.subject)?;
+        let subject = self.leap(below, Position::Subject, selector, start.subject)?;
         let of_subject = selector.with(Position::Subject, subject);
-        if let Some(found) = self.seek_subject(of_subject, start) {
+        if let Some(found) = self.seek_subject(below, of_subject, start) {
             return Some(found);
         }
-        let next = self.leap_turned(Position::Subject, selector, subject + 1)?;
+        let next = self.leap(below, Position::Subject, selector, subject + 1)?;
         let of_next = selector.with(Position::Subject, next);
-        self.seek_subject(of_next, start)
+        self.seek_subject(below, of_next, start)
     }
 }

@@ -18,6 +18,7 @@ const EVERY: Selector = Selector {
     object: ANY,
 };
 
+// Kept as a clause: a store may move things about when asked; no invariant tells what it meant before.
 /// Whether the store holds the triple.
 fn is_held<S: Store>(store: &mut S, triple: Triple) -> bool
     ensures answer { result ≡ (S.Store.meaning store.old).has triple }

@@ -39,5 +39,5 @@ pub fn selector_of(entries: (u32, u32, u32)) -> Selector
 pub fn said(rejection: Rejection) -> (u32, usize)
     ensures { result ≡ (published rejection.refusal, rejection.place) }
 {
-    (rejection.refusal.number(), rejection.place)
+    rejection.into()
 }

@@ -3,7 +3,8 @@ use Rattle.std.proofs.Common.{◌≡◌, ℕ, ◌+◌, ◌<◌, ◌≤◌, cond,
 use Rattle.std.proofs.Common.{arith}
 use Rattle.std.proofs.ByRecursion.{All-weaker, sum_by_le}
 use Rattle.std.proofs.lemmas.List.Sums.{sum_by_more, sum_by-take-le}
-use Rattle.std.proofs.lemmas.Bool.{cases_lt, eq-eqb, ne_eqb, cond-true, cond-false}
+use Rattle.std.proofs.lemmas.Bool.{cases_lt, ne_eqb, cond-false}
+use Rattle.std.proofs.lemmas.Bool.Decides.{nat_tests}
 use Rattle.std.specs.List.{AllByRecursion}
 use Rattle.std.specs.List.Sorted.{IsNonDecreasing}
 
@@ -14,16 +15,14 @@ count_none y xs h =
     (λ x k. let e = cond-false {A = ℕ} (eqb y x) 1 0 (ne_eqb y x k) in omega arith) xs h) in
     omega arith
 
-count_twice : (y : ℕ) (xs : List ℕ) (i d : ℕ) → i + 1 < length xs → y ≡ get_or xs i d → y ≡ get_or xs (i + 1) d
-    → 2 ≤ count_by (eqb y) xs
+count_twice : (y : ℕ) (xs : List ℕ) (i d : ℕ) → i + 1 < length xs → y ≡ get_or xs i d
+    → y ≡ get_or xs (i + 1) d → 2 ≤ count_by (eqb y) xs
 count_twice y xs i d h e f =
     let one : i < length xs = omega arith in
     let here = sum_by_more (λ x. cond (eqb y x) 1 0) xs i d one in
     let next = sum_by_more (λ x. cond (eqb y x) 1 0) xs (i + 1) d h in
     let all = sum_by-take-le (λ x. cond (eqb y x) 1 0) xs (i + 1 + 1) in
-    let first = cond-true {A = ℕ} (eqb y (get_or xs i d)) 1 0 (eq-eqb y (get_or xs i d) e) in
-    let second = cond-true {A = ℕ} (eqb y (get_or xs (i + 1) d)) 1 0 (eq-eqb y (get_or xs (i + 1) d) f) in
-    omega (arith, here, next, all, first, second)
+    grind (arith, nat_tests, here, next, all)
 
 -- a list that rises and has no number twice rises strictly
 pub rises_strictly : (xs : List ℕ) → IsNonDecreasing xs → ((y : ℕ) → count_by (eqb y) xs ≤ 1)

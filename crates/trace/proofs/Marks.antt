@@ -8,7 +8,8 @@ use Rattle.std.proofs.lemmas.List.{length_push, length-replicate, get_or_past, g
 use Rattle.std.proofs.lemmas.List.{get_or-set_same, get_or-set_other, set-get_or}
 use Rattle.std.proofs.lemmas.List.Sorted.{length_permutation, sum_by-IsPermutation}
 use Rattle.std.proofs.lemmas.List.Sums.{sum_by_push, sum_by-set}
-use Rattle.std.proofs.lemmas.Bool.{cases_Bool, cases_eq, cases_lt, eqb-true, both_ways, cond-true, cond-false}
+use Rattle.std.proofs.lemmas.Bool.{cases_Bool, cases_eq, both_ways, cond-true, cond-false}
+use Rattle.std.proofs.lemmas.Bool.Decides.{nat_tests}
 use Rattle.std.specs.List.{ContainsAt as Has, AllByRecursion}
 use Rattle.std.specs.List.Sorted.{IsPermutation}
 use Rattle.trace.specs.Marks.{marked, unmarked, Noted, Gathered}
@@ -18,22 +19,23 @@ use Rattle.trace.proofs.Lists.{count_none}
 
 pub marked_none : (n y : ℕ) → marked (replicate n false) y ≡ false
 marked_none n y =
-    ⊎_elim (get_or-replicate n y false false)
-    (λ h. get_or_past (replicate n false) y false (let e = length-replicate n false in omega arith))
-    (cases_lt y n)
+    grind (
+      arith,
+      nat_tests,
+      length-replicate n false,
+      get_or-replicate n y false false,
+      get_or_past (replicate n false) y false,
+    )
 
 marked-set : (marks : List Bool) (y z : ℕ) → y < length marks → marked marks z ≡ true
     → marked (set marks y true) z ≡ true
 marked-set marks y z l h =
-    ⊎_elim (λ e. subst (λ k. marked (set marks y true) k ≡ true) (sym e) (get_or-set_same marks y true false l))
-    (λ ne. get_or-set_other marks y z true false ne ∙ h) (cases_eq z y)
+    grind (arith, nat_tests, get_or-set_same marks y true false l, get_or-set_other marks y z true false)
 
 unmarked-set : (marks : List Bool) (y : ℕ) → y < length marks → marked marks y ≡ false
     → unmarked (set marks y true) + 1 ≡ unmarked marks
 unmarked-set marks y l h =
-    let e = sum_by-set (λ b. cond (not b) 1 0) marks y true false l in
-    let one = ap {B = ℕ} (λ b. cond (not b) 1 0) h in
-    omega (arith, e, one)
+    grind (arith, nat_tests, sum_by-set (λ b. cond (not b) 1 0) marks y true false l)
 
 -- a number noted, by what its mark was before
 
@@ -45,30 +47,35 @@ module _ (y : ℕ) (marks : List Bool) (found : List ℕ) {before now : Bool} (i
   pub noted_met : before ≡ true → Noted y marks found (set marks y now) found
   noted_met h = record {
     mark = noted_mark;
-    list = sym (cond-true (marked marks y) found (found ++ y ∷ []) (sym was ∙ h));
+    list = grind (arith, nat_tests);
   }
 
   pub noted_new : before ≡ false → {more : List ℕ} → more ≡ found ++ y ∷ []
       → Noted y marks found (set marks y now) more
   noted_new h e = record {
     mark = noted_mark;
-    list = e ∙ sym (cond-false (marked marks y) found (found ++ y ∷ []) (sym was ∙ h));
+    list = grind (arith, nat_tests);
   }
 
 -- what is gathered
 
 module _ {P : ℕ → Type 0} {old new : List Bool} {xs : List ℕ} (g : Gathered P old new xs) where
-  pub gathered_like : {Q : ℕ → Type 0} → ((y : ℕ) → P y → Q y) → ((y : ℕ) → Q y → P y)
+  -- Q holds where P does, and each number with Q is marked
+  gathered_weaker : {Q : ℕ → Type 0} → ((y : ℕ) → P y → Q y) → ((y : ℕ) → Q y → marked new y ≡ true)
       → Gathered Q old new xs
-  gathered_like to from = record {
+  gathered_weaker to all = record {
     each = All-weaker _ _
         (λ y h. record { wanted = to y h.wanted; before = h.before; after = h.after }) xs g.each;
     once = g.once;
-    all = λ y h. g.all y (from y h);
+    all = all;
     kept = g.kept;
     fresh = g.fresh;
     fewer = g.fewer;
   }
+
+  pub gathered_like : {Q : ℕ → Type 0} → ((y : ℕ) → P y → Q y) → ((y : ℕ) → Q y → P y)
+      → Gathered Q old new xs
+  gathered_like to from = gathered_weaker to (λ y h. g.all y (from y h))
 
   pub gathered_shuffled : {ys : List ℕ} → IsPermutation xs ys → Gathered P old new ys
   gathered_shuffled {ys} s = record {
@@ -83,15 +90,9 @@ module _ {P : ℕ → Type 0} {old new : List Bool} {xs : List ℕ} (g : Gathere
   }
 
   gathered_old : (y : ℕ) → marked new y ≡ true → Gathered (λ z. P z ⊎ (z ≡ y)) old new xs
-  gathered_old y here = record {
-    each = All-weaker _ _
-        (λ z h. record { wanted = inl h.wanted; before = h.before; after = h.after }) xs g.each;
-    once = g.once;
-    all = λ z. ⊎_elim (g.all z) (λ e. subst (λ k. marked new k ≡ true) (sym e) here);
-    kept = g.kept;
-    fresh = g.fresh;
-    fewer = g.fewer;
-  }
+  gathered_old y here =
+      gathered_weaker (λ z. inl)
+      (λ z. ⊎_elim (g.all z) (λ e. subst (λ k. marked new k ≡ true) (sym e) here))
 
   module _ (y : ℕ) (l : y < length new) (here : marked new y ≡ false) where
     apart : AllByRecursion (λ x. y ≡ x → ⊥) xs
@@ -102,20 +103,12 @@ module _ {P : ℕ → Type 0} {old new : List Bool} {xs : List ℕ} (g : Gathere
 
     unmarked_before : marked old y ≡ false
     unmarked_before =
-        ⊎_elim (λ h. absurd (both_ways (marked new y) here (g.kept y h))) (λ h. h)
-        (cases_Bool (marked old y))
+        grind (arith, nat_tests, g.kept y)
 
     once_push : (z : ℕ) → count_by (eqb z) (xs ++ y ∷ []) ≤ 1
     once_push z =
         let more = sum_by_push (λ x. cond (eqb z x) 1 0) xs y in
-        let before = g.once z in
-        ⊎_elim
-        (λ e. let none = count_none y xs apart in
-        let one = cond-true {A = ℕ} (eqb z y) 1 0 e in
-        let there = ap (λ k. count_by (eqb k) xs) (eqb-true z y e) in
-        omega (arith, more, none, one, there))
-        (λ e. let zero = cond-false {A = ℕ} (eqb z y) 1 0 e in omega (arith, more, zero, before))
-        (cases_Bool (eqb z y))
+        grind (arith, nat_tests, more, g.once z, count_none y xs apart)
 
     gathered_push : Gathered (λ z. P z ⊎ (z ≡ y)) old (set new y true) (xs ++ y ∷ [])
     gathered_push = record {
@@ -127,7 +120,11 @@ module _ {P : ℕ → Type 0} {old new : List Bool} {xs : List ℕ} (g : Gathere
             after = marked-set new y z l h.after;
           })
           xs g.each)
-          (record { wanted = inr refl; before = unmarked_before; after = get_or-set_same new y true false l });
+          (record {
+            wanted = inr refl;
+            before = unmarked_before;
+            after = get_or-set_same new y true false l;
+          });
       once = once_push;
       all = λ z. ⊎_elim (λ h. marked-set new y z l (g.all z h))
           (λ e. subst (λ k. marked (set new y true) k ≡ true) (sym e) (get_or-set_same new y true false l));

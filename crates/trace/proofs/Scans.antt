@@ -1,12 +1,13 @@
 -- A scan that goes from one match to the next loses none. Assumes nothing.
-use Rattle.std.proofs.Common.{◌≡◌, ◌+◌, ◌<◌, Bool, true, false, List, [], ◌∷◌, ◌++◌, length, sym}
+use Rattle.std.proofs.Common.{◌≡◌, ◌+◌, ◌<◌, Bool, true, false, List, [], ◌∷◌, ◌++◌, length, sym, ◌∙◌}
 use Rattle.std.proofs.Common.{subst₂, ⊎_elim, arith}
 use Rattle.std.proofs.ByRecursion.{All-get_or, All-push, All-weaker}
 use Rattle.std.proofs.lemmas.List.{length_push, get_or_append_left, get_or_push}
-use Rattle.std.proofs.lemmas.Bool.{false≢true, cases_Bool, cases_lt, or_cases, or_left, or_right}
+use Rattle.std.proofs.lemmas.Bool.{cases_Bool, cases_lt, or_left, or_right}
 use Rattle.std.specs.List.{AllByRecursion}
 use Rattle.triples.specs.declared.selector.Selector.{Selector}
 use Rattle.triples.specs.declared.triple.Triple.{Triple}
+use Rattle.triples.specs.Laws.{among-append}
 use Rattle.triples.specs.Meaning.{among}
 use Rattle.triples.specs.Order.{before, same}
 use Rattle.triples.specs.Seeks.{Least}
@@ -17,16 +18,13 @@ use Rattle.trace.specs.Scans.{Match, Ascending}
 
 -- among
 
-among-append_left : (xs ys : List Triple) (t : Triple) → among xs t ≡ true → among (xs ++ ys) t ≡ true
-among-append_left [] ys t h = absurd (false≢true h)
-among-append_left (x ∷ xs) ys t h =
-    ⊎_elim (or_left (same x t) (among (xs ++ ys) t))
-    (λ k. or_right (same x t) (among (xs ++ ys) t) (among-append_left xs ys t k))
-    (or_cases (same x t) (among xs t) h)
+among_left : (xs ys : List Triple) (t : Triple) → among xs t ≡ true → among (xs ++ ys) t ≡ true
+among_left xs ys t h = among-append xs ys t ∙ or_left (among xs t) (among ys t) h
 
 among_push : (xs : List Triple) (x t : Triple) → same x t ≡ true → among (xs ++ x ∷ []) t ≡ true
-among_push [] x t h = or_left (same x t) false h
-among_push (y ∷ xs) x t h = or_right (same y t) (among (xs ++ x ∷ []) t) (among_push xs x t h)
+among_push xs x t h =
+    among-append xs (x ∷ []) t
+    ∙ or_right (among xs t) (among (x ∷ []) t) (or_left (same x t) false h)
 
 -- ascending lists
 
@@ -62,7 +60,7 @@ module _ (has : Triple → Bool) (selector : Selector) where
     below = All-push _ xs t
         (All-weaker _ _ (λ x h. before_behind_upto x start t h l.candidate.reached) xs s.below)
         (before_behind t);
-    all = λ u m h. ⊎_elim (λ k. among-append_left xs (t ∷ []) u (s.all u m k))
+    all = λ u m h. ⊎_elim (λ k. among_left xs (t ∷ []) u (s.all u m k))
         (λ k. among_push xs t u (same_from_behind t u
         (l.first u (record { held = m.held; fit = m.fit; reached = k })) h))
         (cases_Bool (before u start));

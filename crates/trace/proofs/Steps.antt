@@ -31,7 +31,8 @@ module _ (has : Triple → Bool) (a : ℕ) where
   pub record Layered (k : ℕ) (reached front : List ℕ) (marks : List Bool) : Type 0 where
     pub each : AllByRecursion (Close k) reached
     pub all : (j b : ℕ) → 1 ≤ j → j ≤ k → Reaches has j a b → Has reached b
-    pub order : (i j d : ℕ) → i < j → j < length reached → Nearer has a (get_or reached i d) (get_or reached j d)
+    pub order : (i j d : ℕ) → i < j → j < length reached
+        → Nearer has a (get_or reached i d) (get_or reached j d)
     pub seen : AllByRecursion (λ x. marked marks x ≡ true) reached
     pub listed : (x : ℕ) → marked marks x ≡ true → Has reached x
     pub last : (x : ℕ) → Has front x → Fresh k x
@@ -111,7 +112,8 @@ module _ (has : Triple → Bool) (a : ℕ) where
           (cases_lt j (suc k))
 
       nearest_next : (i d : ℕ) → i < length next → Nearest has (suc k) a (get_or next i d)
-      nearest_next i d h = nearest_fresh k (get_or next i d) (fresh_next (get_or next i d) (has_get_or next i d h))
+      nearest_next i d h =
+          nearest_fresh k (get_or next i d) (fresh_next (get_or next i d) (has_get_or next i d h))
 
       nearer_next : (i j d : ℕ) → i < j → j < length next → Nearer has a (get_or next i d) (get_or next j d)
       nearer_next i j d h e = record {

@@ -9,6 +9,7 @@ use triples::selector::{ANY, Selector};
 use triples::store::Store;
 use triples::triple::ORIGIN;
 
+// Kept as a clause: a store may move things about when asked; no invariant tells what it meant before.
 /// Puts the terms one step from `term` that are not seen yet behind those found, each once, and marks them.
 pub(crate) fn visit<S: Store>(
     store: &mut S,

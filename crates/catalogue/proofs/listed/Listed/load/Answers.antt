@@ -1,8 +1,8 @@
 -- Where the records are not refused, none of them is invalid.
-use Rattle.std.proofs.Common.{◌≡◌, ◌+◌, ◌≤◌, Bool, true, false, cond, not, ◌&&◌, List, [], ◌∷◌, length, Some}
-use Rattle.std.proofs.Common.{None}
-use Rattle.std.proofs.Common.{refl, subst, arith}
+use Rattle.std.proofs.Common.{◌≡◌, ◌≤◌, Bool, true, false, cond, not, List, [], ◌∷◌, length, Some}
+use Rattle.std.proofs.Common.{None, refl, subst, arith}
 use Rattle.std.proofs.lemmas.Bool.{ltb-false}
+use Rattle.std.proofs.lemmas.Bool.Decides.{nat_tests}
 use Rattle.std.specs.List.{list_all, position_or_len}
 use Rattle.std.specs.Option.{option_map}
 use Rattle.catalogue.specs.declared.record.Record.{Record}
@@ -13,18 +13,13 @@ use Rattle.catalogue.proofs.listed.Listed.load.Goals as goal
 -- a refusal that is none is for neither reason
 none_parts : {A B : Type 0} (long found : Bool) (a : B) (f : A → B) (place : A)
     → cond long (Some a) (option_map f (cond found (Some place) None)) ≡ None → found ≡ false
-none_parts true found a f place e = cc
-none_parts false true a f place e = cc
-none_parts false false a f place e = refl
+none_parts long found a f place e = grind (arith, nat_tests)
 
 -- where no element fails p, each passes it
 all_from_none : {X : Type 0} (p : X → Bool) (xs : List X)
     → length xs ≤ position_or_len (λ x. not (p x)) xs → list_all p xs ≡ true
 all_from_none p [] h = refl
-all_from_none p (x ∷ xs) h =
-    (elim (p x) as (λ v. length (x ∷ xs) ≤ cond (not (not v)) (1 + position_or_len (λ y. not (p y)) xs) 0
-    → (v && list_all p xs) ≡ true)
-    [ true ↦ λ more. all_from_none p xs (omega arith) | false ↦ λ more. absurd (omega arith) ]) h
+all_from_none p (x ∷ xs) h = grind (arith, nat_tests, all_from_none p xs)
 
 -- where a list is not refused, each of its records is valid
 valid_from_none : (records : List Record) → listed_outcome records ≡ None → all_valid records ≡ true

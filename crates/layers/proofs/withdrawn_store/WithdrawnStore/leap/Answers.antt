@@ -1,17 +1,15 @@
 -- A number of which all triples are withdrawn is passed, another is the answer. Long, since the layer changes
 -- inside twice in a turn, at the leap below and at the seek, and each time stands for what it stood for.
-use Rattle.std.proofs.Common.{◌≡◌, ◌+◌, ◌≤◌, None, sym, refl, ◌∙◌, subst, subst₂, arith}
-use Rattle.triples.specs.Meaning.{Meaning, largest_top}
+use Rattle.std.proofs.Common.{◌≡◌, ◌+◌, None, sym, ap, ◌∙◌, subst, subst₂}
+use Rattle.triples.specs.Meaning.{Meaning}
 use Rattle.triples.specs.Seeks.{Sought, Leapt, Lowest}
 use Rattle.triples.specs.Selectors.{select}
 use Rattle.triples.proofs.Seeks.{origin}
 use Rattle.layers.specs.Members.{members}
 use Rattle.layers.specs.Withdrawals.{without}
-use Rattle.layers.proofs.Leaps.{lowest_term}
 use Rattle.layers.proofs.Withdrawals.{LeaptPast, leapt_past_all, leapt_past_found, leapt_past_more}
-use Rattle.layers.proofs.Withdrawals.{same_without}
 use Rattle.layers.proofs.withdrawn_store.WithdrawnStore.leap.Given.{Over}
-use Rattle.layers.proofs.withdrawn_store.WithdrawnStore.leap.Goals.{After-leap, In-Some, After-is_some}
+use Rattle.layers.proofs.withdrawn_store.WithdrawnStore.leap.Goals.{After-leap, After-is_some}
 use Rattle.layers.proofs.withdrawn_store.WithdrawnStore.leap.Goals as goal
 
 -- what the layer stands for when the turn begins
@@ -29,10 +27,7 @@ past g c =
 -- behind the leap the layer stands for what it stood for when the turn began
 same_leapt : (g : Over) (c : goal.After-leap g)
     → without (g.S.Store.meaning c.leap.new.self) (members c.loop-number.self.gone) ≡ layer g c
-same_leapt g c =
-    let gone = members c.loop-number.self.gone in
-    same_without (g.S.Store.meaning c.leap.new.self)
-    (g.S.Store.meaning c.loop-number.self.below) gone gone c.leap.ensures.same refl
+same_leapt g c = ap (λ (m : Meaning). without m (members c.loop-number.self.gone)) c.leap.ensures.same
 
 pub returns-clause-answer : goal.returns-clause-answer
 returns-clause-answer g c =
@@ -60,21 +55,6 @@ returns-then-is_some-clause-answer g c =
     c.args.selector c.args.bound c.loop-number.from (past g at.After-leap) c.in-Some.number
     c.in-Some.ensures.answer (g.S.Store.sound below) c.seek.result (sought g at.After-is_some)
     c.if-is_some.ensures)
-
--- the number is a term
-small : (g : Over) (c : goal.In-Some g) → c.in-Some.number ≤ largest_top
-small g c =
-    let below = c.loop-number.self.below in
-    (lowest_term (g.S.Store.meaning below) c.args.position c.args.selector c.loop-number.from
-    c.in-Some.number (g.S.Store.sound below) c.in-Some.ensures.answer).1
-
-pub loop-number-smaller : goal.loop-number-smaller
-loop-number-smaller g c =
-    omega (
-      arith,
-      small g (goal.at.loop-number-smaller g c).In-Some,
-      c.in-Some.ensures.answer.offer.reached,
-    )
 
 pub loop-number-preserved : goal.loop-number-preserved
 loop-number-preserved g c =
