@@ -1,5 +1,6 @@
 //! A refusal with the place that it names.
 ghost use Rattle.std.specs.Prelude.{◌≡◌, Some};
+ghost use Rattle.refusal.specs.Numbers.{published};
 ghost use Rattle.refusal.specs.Texts.{rejection_text};
 
 use crate::refusal::Refusal;
@@ -11,6 +12,7 @@ use std::fmt::{Formatter, Write};
 #[derive(Clone, Copy, Debug, PartialEq, Eq)]
 pub struct Rejection {
     pub refusal: Refusal,
+    // Kept as a number: a refusal that names no place is published with place 0, and shows so.
     pub place: usize,
 }
 
@@ -20,6 +22,15 @@ impl Rejection {
         ensures { (result.refusal ≡ refusal) × (result.place ≡ 0) }
     {
         Rejection { refusal, place: 0 }
+    }
+}
+
+/// The published number of the refusal, and the place.
+impl From<Rejection> for (u32, usize) {
+    ghost from_gives = { λ r pair. pair ≡ (published r.refusal, r.place) };
+
+    fn from(rejection: Rejection) -> (u32, usize) {
+        (rejection.refusal.number(), rejection.place)
     }
 }
 
