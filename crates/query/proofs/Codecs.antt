@@ -14,7 +14,7 @@ use Rattle.query.specs.declared.kind.Kind.TheVariants as kind
 use Rattle.query.specs.declared.node.Node.{Node}
 use Rattle.query.specs.declared.node.Node.TheVariants.{Equal, Less, Bound, Not, And, Or}
 use Rattle.query.specs.declared.pattern.TriplePattern.{TriplePattern}
-use Rattle.query.specs.Codes.{code_of, place_among, place_from, number_of, kind_among}
+use Rattle.query.specs.Codes.{code_of, place_among, place_from, number_of}
 use Rattle.query.specs.Limits.{within, lawful_place}
 use Rattle.query.specs.Codes.{kind_from}
 use Rattle.query.specs.Limits.{most_variable, most_term}
@@ -24,6 +24,7 @@ use Rattle.query.specs.Grammar.{place, triple, variable}
 use Rattle.query.specs.Readers.{took, refused, Reader, next, one, both, role}
 use Rattle.query.specs.Grammar.{lower, operands, node}
 use Rattle.query.specs.Theorems.{by_number}
+use Rattle.query.proofs.KindNumbers.{kind_back, kind_small, kind_found}
 use Rattle.query.proofs.Readers.{Stops, Codec, codec_like, role_codec, tested_codec}
 use Rattle.query.proofs.Sequences.{one_took, one_refused, one_stops, both_took, both_back, both_stops}
 use Rattle.query.proofs.Sequences.{both_codec}
@@ -245,41 +246,10 @@ operands_codec i small k = record {
 
 -- node
 
-kind_back : (k : Kind) → kind_from (number_of k) ≡ Some k
-kind_back kind.Equal = refl
-kind_back kind.Less = refl
-kind_back kind.Bound = refl
-kind_back kind.Not = refl
-kind_back kind.And = refl
-kind_back kind.Or = refl
-
-kind_small : (k : Kind) → number_of k ≤ largest
-kind_small kind.Equal = omega arith
-kind_small kind.Less = omega arith
-kind_small kind.Bound = omega arith
-kind_small kind.Not = omega arith
-kind_small kind.And = omega arith
-kind_small kind.Or = omega arith
-
--- whatever is found among kinds has the number that was looked for
-kind_found : (ks : List Kind) (n : ℕ) (k : Kind) → kind_among ks n ≡ Some k → number_of k ≡ n
-kind_found [] n k e = let z : ◌≡◌ {A = ℕ} 0 1 = cc in absurd (omega arith)
-kind_found (j ∷ ks) n k e =
-    ⊎_elim
-    (λ t. let same : Some j ≡ Some k = sym (ap (λ b. cond b (Some j) (kind_among ks n)) t) ∙ e in
-    let found : j ≡ k = cc in
-    ap number_of (sym found) ∙ eqb-true (number_of j) n t)
-    (λ t. kind_found ks n k (sym (ap (λ b. cond b (Some j) (kind_among ks n)) t) ∙ e))
-    (cases_Bool (eqb (number_of j) n))
-
 kind_codec : Codec (role NodeInvalid kind_from) (λ k. encode (number_of k)) (λ _. Unit {0})
 kind_codec =
     role_codec NodeInvalid kind_from number_of (λ _. Unit {0}) (λ k _. (kind_back k, kind_small k))
-    (λ n k l e. (
-      tt,
-      kind_found (kind.Equal ∷ kind.Less ∷ kind.Bound ∷ kind.Not ∷ kind.And ∷ kind.Or ∷ []) n
-          k e,
-    ))
+    (λ n k l e. (tt, kind_found n k e))
 
 pub node_codec : (i : ℕ) → i ≤ largest → Codec (node i) node_bytes (λ n. lawful_node i n ≡ true)
 node_codec i small =

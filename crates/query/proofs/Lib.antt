@@ -4,6 +4,7 @@ pub mod Limits  -- what keeping a limit says
 pub mod Readers  -- laws of one number and what it stands for
 pub mod Numbers  -- a number read at a place
 pub mod Sequences  -- laws of parts read one behind the other
+pub mod KindNumbers  -- kinds of nodes and their numbers
 pub mod Codecs  -- places, triples and nodes, each with its writing
 pub mod Parts  -- lists, blocks and alternatives, each with its writing
 pub mod Sets  -- sets of variables

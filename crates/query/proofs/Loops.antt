@@ -11,10 +11,6 @@ prefixed xs m = next m (λ ys at bs. took (xs ++ ys) at bs)
 
 -- prefixed
 
-pub prefixed_none : {A : Type 0} (m : Read (List A)) → m ≡ prefixed [] m
-prefixed_none (took ys at bs) = refl
-prefixed_none (refused r q) = refl
-
 prefixed_push : {A : Type 0} (xs : List A) (x : A) (m : Read (List A))
     → prefixed xs (next m (λ ys at bs. took (x ∷ ys) at bs)) ≡ prefixed (xs ++ x ∷ []) m
 prefixed_push xs x (took ys at bs) = ap (λ l. took l at bs) (sym (append_assoc xs (x ∷ []) ys))

@@ -2,7 +2,7 @@
 --     Sofar ..    so many items came in, the rest of the list gives the answer, and the builder holds the
 --                 draft with them
 use Rattle.std.proofs.Common.{◌≡◌, ℕ, suc, ◌+◌, ◌-◌, ◌<◌, ◌≤◌, List, [], ◌∷◌, ◌++◌, length, Ok, Err, Result}
-use Rattle.std.proofs.Common.{sym, refl, ap, ◌∙◌, add-zero, arith}
+use Rattle.std.proofs.Common.{sym, ap, ◌∙◌, add-zero, arith}
 use Rattle.std.proofs.lemmas.List.{length_push}
 use Rattle.refusal.specs.declared.rejection.Rejection.{Rejection}
 use Rattle.query.specs.declared.cursor.Cursor.{Cursor}
@@ -15,7 +15,7 @@ use Rattle.query.specs.Parts.{Part, Group}
 use Rattle.query.proofs.Lawful.{total_push}
 use Rattle.query.specs.Scanning.{ahead, Takes}
 use Rattle.std.specs.Result.{IsErrAnd}
-use Rattle.query.proofs.Loops.{prefixed, prefixed_none, times_more, times_refused, times_done, series_took}
+use Rattle.query.proofs.Loops.{prefixed, times_more, times_refused, times_done, series_took}
 use Rattle.query.proofs.Loops.{series_refused}
 
 -- of the count items from the cursor start on, so many came in up to the cursor here, and Held holds of them

@@ -23,9 +23,11 @@ pub(crate) struct Builder {
     pub(crate) in_blocks: VariableSet,
     /// The variables that two blocks have.
     pub(crate) in_two_blocks: VariableSet,
+    // Kept as a flag: refusal 17 comes behind the last byte, so that a wrong number is named before it.
     /// Whether blocks of a finished alternative share a variable that its required triples lack.
     pub(crate) shared: bool,
-    // Kept as an option: whoever asked for the parts knows that none of them is left for want of memory.
+    // Kept as an option: parts not asked for and parts let go for want of memory are alike, and only a
+    // reader that asked for them finishes.
     /// The parts, if they are kept and there was memory for all of them.
     pub(crate) kept: Option<Kept>,
 }

@@ -27,14 +27,15 @@ impl Kind {
     pub(crate) fn from_number(number: u32) -> Option<Kind>
         ensures { result ≡ kind_from number }
     {
-        match number {
-            1 => Some(Kind::Equal),
-            2 => Some(Kind::Less),
-            3 => Some(Kind::Bound),
-            4 => Some(Kind::Not),
-            5 => Some(Kind::And),
-            6 => Some(Kind::Or),
-            _ => None,
-        }
+        [
+            Kind::Equal,
+            Kind::Less,
+            Kind::Bound,
+            Kind::Not,
+            Kind::And,
+            Kind::Or,
+        ]
+        .into_iter()
+        .find(|kind| u32::from(*kind) == number)
     }
 }

@@ -9,6 +9,7 @@ ghost use Rattle.query.specs.Writes.{Fits, Puts};
 use crate::kind::Kind;
 use crate::place::Place;
 
+// Kept as a buffer with a place: `varint`, whose functions are published, writes at a place of a buffer.
 /// A buffer that is written, and the place that comes next.
 #[derive(Drop)]
 pub(crate) struct Writer<'a> {

@@ -28,7 +28,7 @@ impl<'a> Cursor<'a> {
         ensures { TookTriples least builder.old self.old result builder.new self.new }
     {
         let count = self.tallied(&mut builder.triples, least)?;
-        // Kept as a loop: one function for the four lists needs a trait and a type for each, and is longer.
+        // Kept as a loop: one function for the four lists, given a closure, proves and is 35 lines longer.
         for _number in 0..count {
             let triple = self.triple()?;
             builder.triple(triple);
@@ -41,7 +41,7 @@ impl<'a> Cursor<'a> {
         ensures { TookFilter builder.old self.old result builder.new self.new }
     {
         let count = self.tallied(&mut builder.nodes, 0)?;
-        // Kept as a loop: one function for the four lists needs a trait and a type for each, and is longer.
+        // Kept as a loop: one function for the four lists, given a closure, proves and is 35 lines longer.
         for number in 0..count {
             let node = self.node(number)?;
             builder.node(node);
@@ -64,7 +64,7 @@ impl<'a> Cursor<'a> {
         ensures { TookBlocks builder.old self.old result builder.new self.new }
     {
         let count = self.count(0, MOST_BLOCKS)?;
-        // Kept as a loop: one function for the four lists needs a trait and a type for each, and is longer.
+        // Kept as a loop: one function for the four lists, given a closure, proves and is 35 lines longer.
         for _number in 0..count {
             self.block(builder)?;
         }
@@ -88,7 +88,7 @@ impl<'a> Cursor<'a> {
         ensures { TookAlternatives builder.old self.old result builder.new self.new }
     {
         let count = self.count(1, MOST_ALTERNATIVES)?;
-        // Kept as a loop: one function for the four lists needs a trait and a type for each, and is longer.
+        // Kept as a loop: one function for the four lists, given a closure, proves and is 35 lines longer.
         for _number in 0..count {
             self.alternative(builder)?;
         }

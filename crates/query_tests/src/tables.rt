@@ -5,7 +5,7 @@ use query::read;
 
 /// Whether the bytes are a query, or else the number of the refusal and its place.
 pub(crate) fn outcome(bytes: &[u8]) -> Result<(), (u32, usize)> {
-    read::check(bytes).map_err(|rejection| (rejection.refusal.number(), rejection.place))
+    read::check(bytes).map_err(|rejection| rejection.into())
 }
 
 #[test]

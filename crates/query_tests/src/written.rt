@@ -45,7 +45,7 @@ fn one_byte_too_few_is_refused_by_34_and_stays(rt: HostRuntime) -> Result<(), Fa
     let Err(rejection) = query.write(&mut out) else {
         return Err(Fail::new("sixteen bytes were written into fifteen"));
     };
-    assert_eq!(rt; (rejection.refusal.number(), rejection.place), (34, 0));
+    assert_eq!(rt; <(u32, usize)>::from(rejection), (34, 0));
     assert!(rt; ends_clean(&out, 0));
     Ok(())
 }

@@ -1,12 +1,5 @@
-use Rattle.std.proofs.Common.{◌||◌, false, arith, rules, tests}
-use Rattle.query.specs.Variables.{member}
-use Rattle.query.proofs.Sets.{from_fn_each}
+use Rattle.std.proofs.Common.{◌||◌, rules}
 use Rattle.query.proofs.variables.VariableSet.union.Goals as goal
 
 pub returns : goal.returns
-returns c v l =
-    let a = c.args.self.now in
-    let b = c.args.other.now in
-    from_fn_each _ _ (λ v. member v a || member v b) 16 (λ i y q l k. search (rules, tests))
-    c.from_fn.result 16 0
-    (omega arith) c.from_fn.ensures.items.each v false (omega arith) l
+returns c = c.zip_with.ensures (λ x y. x || y) (λ x y r e. search rules)
