@@ -1,5 +1,7 @@
 //! Filters as text. A filter whose nodes are each named once, but for the last, is written as the
 //! expression of its last node; any other lists its nodes by number, so that no node is written twice.
+ghost use Rattle.std.specs.Prelude.{◌≤◌};
+
 use query::node::Node;
 use std::fmt;
 use std::fmt::{Formatter, Write};
@@ -10,28 +12,32 @@ pub(crate) struct FilterText<'a>(pub &'a [Node]);
 
 impl fmt::Display for FilterText<'_> {
     fn fmt<W: Write>(&self, f: &mut Formatter<W>) -> fmt::Result {
-        match self.0 {
+        let nodes = self.0;
+        let expression = Expression(nodes);
+        match nodes {
             [] => Ok(()),
-            nodes if is_tree(nodes) => put_whole(nodes, f),
-            nodes => put_list(nodes, f),
+            nodes if !is_tree(nodes) => write!(f, "FILTER {}", Numbered(nodes)),
+            [.., Node::Bound(_) | Node::Not(_)] => write!(f, "FILTER ({expression})"),
+            _ => write!(f, "FILTER {expression}"),
         }
     }
 }
 
 /// Whether each node but the last is named exactly once.
 fn is_tree(nodes: &[Node]) -> bool {
-    (1..nodes.len()).all(|number| uses(nodes, number - 1) == 1)
+    let last = nodes.len().saturating_sub(1);
+    (0..last).all(|number| uses(nodes, number) == 1)
 }
 
 /// How often the nodes name the node `number`.
 fn uses(nodes: &[Node], number: usize) -> usize {
-    nodes.iter().fold(0usize, |uses, node| {
-        uses.saturating_add(uses_in(*node, number))
-    })
+    nodes.iter().map(|node| uses_in(*node, number)).sum()
 }
 
 /// How often the node names the node `number`.
-fn uses_in(node: Node, number: usize) -> usize {
+fn uses_in(node: Node, number: usize) -> usize
+    ensures { result ≤ 2 }
+{
     match node {
         Node::Not(a) => usize::from(a as usize == number),
         Node::And(a, b) | Node::Or(a, b) => usize::from(a as usize == number)
@@ -40,17 +46,13 @@ fn uses_in(node: Node, number: usize) -> usize {
     }
 }
 
-// Kept as functions: each writes the last node of a slice, as a `Display` of the slice would have to again.
-/// Writes the expression of the last node, in brackets of its own where it has none.
-fn put_whole<W: Write>(nodes: &[Node], f: &mut Formatter<W>) -> fmt::Result {
-    f.write_str("FILTER ")?;
-    match nodes {
-        [.., Node::Bound(_) | Node::Not(_)] => {
-            f.write_char('(')?;
-            put_expression(nodes, f)?;
-            f.write_char(')')
-        }
-        _ => put_expression(nodes, f),
+/// Nodes that show as the expression of the last, with the nodes that it names in their places.
+#[derive(Clone, Copy)]
+struct Expression<'a>(&'a [Node]);
+
+impl fmt::Display for Expression<'_> {
+    fn fmt<W: Write>(&self, f: &mut Formatter<W>) -> fmt::Result {
+        put_expression(self.0, f)
     }
 }
 
@@ -62,6 +64,7 @@ fn sign_of(node: Node) -> &'static str {
     }
 }
 
+// Kept as functions: where `write!` calls a `Display` that leads back to its caller, the proof doesn't close.
 /// Writes the expression of the last node, with the nodes that it names in their places.
 #[cycle(expression)]
 fn put_expression<W: Write>(nodes: &[Node], f: &mut Formatter<W>) -> fmt::Result {
@@ -93,16 +96,21 @@ fn put_operand<W: Write>(below: &[Node], number: u32, f: &mut Formatter<W>) -> f
     }
 }
 
-/// Writes the name of the last node, and then what each name stands for.
-fn put_list<W: Write>(nodes: &[Node], f: &mut Formatter<W>) -> fmt::Result {
-    let last = nodes.len().saturating_sub(1);
-    write!(f, "FILTER (n{last}) WHERE ")?;
-    for (i, node) in nodes.iter().enumerate() {
-        let node = Named(*node);
-        f.write_str(if i == 0 { "" } else { ", " })?;
-        write!(f, "n{i}: {node}")?;
+/// Nodes that show as the name of the last, and then what each name stands for.
+#[derive(Clone, Copy)]
+struct Numbered<'a>(&'a [Node]);
+
+impl fmt::Display for Numbered<'_> {
+    fn fmt<W: Write>(&self, f: &mut Formatter<W>) -> fmt::Result {
+        let last = self.0.len().saturating_sub(1);
+        write!(f, "(n{last}) WHERE ")?;
+        for (i, node) in self.0.iter().enumerate() {
+            let node = Named(*node);
+            f.write_str(if i == 0 { "" } else { ", " })?;
+            write!(f, "n{i}: {node}")?;
+        }
+        Ok(())
     }
-    Ok(())
 }
 
 /// A node, which shows with the nodes that it names by their numbers.

@@ -2,8 +2,6 @@
 use crate::filter::FilterText;
 use query::alternative::Alternative;
 use query::block::Block;
-use query::node::Node;
-use query::pattern::TriplePattern;
 use std::fmt;
 use std::fmt::{Formatter, Write};
 
@@ -24,74 +22,63 @@ impl fmt::Display for Listing<'_> {
     fn fmt<W: Write>(&self, f: &mut Formatter<W>) -> fmt::Result {
         f.write_str("SELECT * WHERE {\n")?;
         match self.alternatives {
-            [only] => put_parts(only, OUTER, f)?,
-            several => put_union(several, f)?,
+            [parts] => {
+                let indent = OUTER;
+                let group = Group { parts, indent };
+                write!(f, "{group}")?
+            }
+            several => {
+                for (i, parts) in several.iter().enumerate() {
+                    let indent = INNER;
+                    let group = Group { parts, indent };
+                    let union = if i == 0 { "" } else { "  UNION\n" };
+                    write!(f, "{union}  {{\n{group}  }}\n")?;
+                }
+            }
         }
         f.write_str("}\n")
     }
 }
 
-// Kept as functions: each writes with what stands before its lines, which a `Display` is not given.
-/// Writes alternatives in braces of their own, with `UNION` between.
-fn put_union<W: Write>(alternatives: &[Alternative], f: &mut Formatter<W>) -> fmt::Result {
-    for (i, alternative) in alternatives.iter().enumerate() {
-        f.write_str(if i == 0 { "  {\n" } else { "  UNION\n  {\n" })?;
-        put_parts(alternative, INNER, f)?;
-        f.write_str("  }\n")?;
-    }
-    Ok(())
+/// An alternative, which shows as a line for each triple, each optional block and the filter, if it has one,
+/// with `indent` before each.
+#[derive(Clone, Copy)]
+struct Group<'a> {
+    parts: &'a Alternative,
+    indent: &'static str,
 }
 
-/// Writes what an alternative holds, with `indent` before each line.
-fn put_parts<W: Write>(
-    alternative: &Alternative,
-    indent: &str,
-    f: &mut Formatter<W>,
-) -> fmt::Result {
-    put_required(alternative.required.as_slice(), indent, f)?;
-    put_blocks(alternative.blocks.as_slice(), indent, f)?;
-    put_filter(alternative.filter.as_slice(), indent, f)
+impl fmt::Display for Group<'_> {
+    fn fmt<W: Write>(&self, f: &mut Formatter<W>) -> fmt::Result {
+        let Group { parts, indent } = *self;
+        for pattern in &parts.required {
+            writeln!(f, "{indent}{pattern}")?;
+        }
+        for block in &parts.blocks {
+            let block = BlockText(block);
+            writeln!(f, "{indent}OPTIONAL {{ {block}}}")?;
+        }
+        if parts.filter.is_empty() {
+            return Ok(());
+        }
+        let filter = FilterText(parts.filter.as_slice());
+        writeln!(f, "{indent}{filter}")
+    }
 }
 
-/// Writes required triples, one a line.
-fn put_required<W: Write>(
-    triples: &[TriplePattern],
-    indent: &str,
-    f: &mut Formatter<W>,
-) -> fmt::Result {
-    for pattern in triples {
-        writeln!(f, "{indent}{pattern}")?;
-    }
-    Ok(())
-}
+/// A block, which shows as its triples and its filter, with a space behind each.
+#[derive(Clone, Copy)]
+struct BlockText<'a>(&'a Block);
 
-/// Writes optional blocks, one a line.
-fn put_blocks<W: Write>(blocks: &[Block], indent: &str, f: &mut Formatter<W>) -> fmt::Result {
-    for block in blocks {
-        write!(f, "{indent}OPTIONAL {{ ")?;
-        put_block(block, f)?;
-        f.write_str("}\n")?;
+impl fmt::Display for BlockText<'_> {
+    fn fmt<W: Write>(&self, f: &mut Formatter<W>) -> fmt::Result {
+        for pattern in &self.0.triples {
+            write!(f, "{pattern} ")?;
+        }
+        if self.0.filter.is_empty() {
+            return Ok(());
+        }
+        let filter = FilterText(self.0.filter.as_slice());
+        write!(f, "{filter} ")
     }
-    Ok(())
-}
-
-/// Writes a block's triples and its filter, a space behind each.
-fn put_block<W: Write>(block: &Block, f: &mut Formatter<W>) -> fmt::Result {
-    for pattern in &block.triples {
-        write!(f, "{pattern} ")?;
-    }
-    if block.filter.is_empty() {
-        return Ok(());
-    }
-    let filter = FilterText(block.filter.as_slice());
-    write!(f, "{filter} ")
-}
-
-/// Writes a group's filter as a line, if there is one.
-fn put_filter<W: Write>(nodes: &[Node], indent: &str, f: &mut Formatter<W>) -> fmt::Result {
-    if nodes.is_empty() {
-        return Ok(());
-    }
-    let filter = FilterText(nodes);
-    writeln!(f, "{indent}{filter}")
 }

@@ -57,10 +57,7 @@ impl Session {
         ensures answer { result.answer.now ≡ answer.now }
         ensures alternatives { map group_of result.alternatives.now ≡ unwrap_or (current self.now) [] }
     {
-        let alternatives = match &self.query {
-            Some(query) => query.alternatives(),
-            None => &[],
-        };
+        let alternatives = self.query.as_ref().map(Query::alternatives).unwrap_or(&[]);
         Reply {
             answer,
             alternatives,
@@ -92,9 +89,7 @@ impl Session {
     fn show(&self) -> Result<Answer, Failure>
         ensures { Showed self.now result }
     {
-        match &self.query {
-            Some(_) => Ok(Answer::Shown),
-            None => Err(Failure::Expected(Expected::Query)),
-        }
+        self.query.as_ref().ok_or(Expected::Query)?;
+        Ok(Answer::Shown)
     }
 }

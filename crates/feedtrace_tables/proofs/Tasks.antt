@@ -1,10 +1,14 @@
--- Laws of tasks: a store that was asked and means what it meant. Assumes nothing.
-use Rattle.std.proofs.Common.{◌≡◌, Some, Option, sym, refl, ap, ◌∙◌, subst, MatchOption}
+-- Laws of tasks: a store that was asked and means what it meant, and outcomes. Assumes nothing.
+use Rattle.std.proofs.Common.{◌≡◌, Some, Ok, Err, Option, sym, refl, ap, ◌∙◌, subst, MatchOption}
+use Rattle.std.specs.Prelude.{MatchResult}
 use Rattle.std.specs.Option.{option_map}
 use Rattle.triples.specs.Meaning.{Meaning}
-use Rattle.feedtrace_tables.specs.Failures.{Carried, lacks}
+use Rattle.feedtrace_tables.specs.Does.{Comes}
+use Rattle.feedtrace_tables.specs.Failures.{Carried, Done, lacks}
 use Rattle.feedtrace_tables.specs.declared.expected.Expected.TheVariants as expected
 use Rattle.feedtrace_tables.specs.Layerings.{Layered, layered_meaning}
+use Rattle.feedtrace_tables.specs.declared.failure.Failure.{Failure}
+use Rattle.feedtrace_tables.specs.declared.outcome.Outcome.{Outcome}
 use Rattle.feedtrace_tables.specs.declared.session.Session.{Session}
 use Rattle.feedtrace_tables.specs.Tasks.{Asked}
 
@@ -22,3 +26,9 @@ asked_some P s l m r is same p = (
   subst (λ (o : Option Layered). MatchOption o (r ≡ lacks expected.Store) (λ l. P (layered_meaning l) r))
       (sym is) p,
 )
+
+pub Comes-from_map : (P : Carried → Type 0) (r : Carried) (m : Done) (A : Outcome → Type 0)
+    (B : Failure → Type 0) → ((o : Outcome) → A o → m ≡ Ok (Some o)) → ((e : Failure) → B e → m ≡ Err e)
+    → MatchResult r A B → P r → Comes P m
+Comes-from_map P (Ok o) m A B has fails is p = rw (has o is) p
+Comes-from_map P (Err e) m A B has fails is p = rw (fails e is) p

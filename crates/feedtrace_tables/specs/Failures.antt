@@ -15,6 +15,10 @@ use Rattle.feedtrace_tables.specs.declared.outcome.Outcome.{Outcome}
 abbrev pub Carried : Type 0
 Carried = Result Outcome Failure
 
+-- the outcome of a task, if it has one, or why it is not carried out
+abbrev pub Done : Type 0
+Done = Result (Option Outcome) Failure
+
 -- more memory is expected
 abbrev pub memory : Expected
 memory = expected.Shared shared.Memory

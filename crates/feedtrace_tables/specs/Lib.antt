@@ -10,6 +10,7 @@ pub mod Layerings  -- what a table with its layers means
 pub mod Books  -- what a catalogue of either kind says
 pub mod TableLines  -- the lines of a table
 pub mod Drafts  -- a table while its lines come in
+pub mod Currents  -- what the session ends as, where its store is lent
 pub mod Tasks  -- what tasks answer, and what they leave
 pub mod Laying  -- what laying layers and withdrawing leave
 pub mod Loads  -- what the end of a table answers

@@ -1,7 +1,10 @@
 //! Questions to the current store and the current catalogue.
+ghost use Rattle.std.specs.Borrow.{sem};
+ghost use Rattle.feedtrace_tables.specs.Currents.{LendsStore, StoreOf};
 ghost use Rattle.feedtrace_tables.specs.Tasks.{Asked, Looked, SeekAnswer, LeapAnswer, ScanAnswer};
 ghost use Rattle.feedtrace_tables.specs.Tasks.{TraceAnswer};
 
+use crate::current::Layered;
 use crate::expected::Expected;
 use crate::failure::Failure;
 use crate::outcome::Outcome;
@@ -16,11 +19,23 @@ use triples::store::Store;
 use triples::triple::Triple;
 
 impl Session {
+    // Kept as a match: behind `ok_or` the result is not followed back, so the first clause does not close.
+    /// The current store.
+    pub(crate) fn current(&mut self) -> Result<&mut Layered, Expected>
+        ensures* lends { sem 𝓛 (LendsStore self.entry result) }
+        ensures value { StoreOf self.old result }
+    {
+        match self.store.as_mut() {
+            Some(store) => Ok(store),
+            None => Err(Expected::Store),
+        }
+    }
+
     /// The least triple of the current store that matches and is not below the start.
     pub(crate) fn seek(&mut self, selector: Selector, start: Triple) -> Result<Outcome, Failure>
         ensures { Asked (SeekAnswer selector start) self.old result self.new }
     {
-        let store = self.store.as_mut().ok_or(Expected::Store)?;
+        let store = self.current()?;
         Ok(Outcome::Found(store.seek(selector, start)))
     }
 
@@ -33,7 +48,7 @@ impl Session {
     ) -> Result<Outcome, Failure>
         ensures { Asked (LeapAnswer position selector bound) self.old result self.new }
     {
-        let store = self.store.as_mut().ok_or(Expected::Store)?;
+        let store = self.current()?;
         Ok(Outcome::Number(store.leap(position, selector, bound)))
     }
 
@@ -41,7 +56,7 @@ impl Session {
     pub(crate) fn scan(&mut self, heap: Global, selector: Selector) -> Result<Outcome, Failure>
         ensures { Asked (ScanAnswer selector) self.old result self.new }
     {
-        let store = self.store.as_mut().ok_or(Expected::Store)?;
+        let store = self.current()?;
         Ok(Outcome::Triples(scan(heap, store, selector)?))
     }
 
@@ -49,7 +64,7 @@ impl Session {
     pub(crate) fn trace(&mut self, heap: Global, term: u32) -> Result<Outcome, Failure>
         ensures { Asked (TraceAnswer term) self.old result self.new }
     {
-        let store = self.store.as_mut().ok_or(Expected::Store)?;
+        let store = self.current()?;
         Ok(Outcome::Terms(reached_from(heap, store, term)?))
     }
 

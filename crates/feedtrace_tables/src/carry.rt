@@ -14,36 +14,44 @@ use std::alloc::Global;
 use triples::property_store::PropertyTable;
 
 impl Session {
-    /// Carries out the task.
-    pub(crate) fn carry_out(&mut self, heap: Global, task: Task) -> Result<Outcome, Failure>
+    /// Carries out the task; one that begins a table has no outcome yet.
+    pub(crate) fn carry_out(&mut self, heap: Global, task: Task) -> Result<Option<Outcome>, Failure>
         ensures { Does task self.old result self.new }
     {
         match task {
-            Task::RowStore(top) => Ok(self.begin(Lists::Rows(top, Vec::new(heap)))),
-            Task::PropertyStore(top) => Ok(self.begin(Lists::Properties(top, empty_table(heap)))),
-            Task::ListedCatalogue => Ok(self.begin(Lists::Records(Vec::new(heap)))),
-            Task::InlineCatalogue => Ok(self.take_inline()),
-            Task::Inverse(property, inverse) => self.lay_inverse(property, inverse),
-            Task::Withdrawn => self.lay_withdrawn(),
-            Task::Withdraw(triple) => self.withdraw(triple),
-            Task::Restore(triple) => self.restore(triple),
-            Task::Seek(selector, start) => self.seek(selector, start),
-            Task::Leap(position, selector, bound) => self.leap(position, selector, bound),
-            Task::Lookup(number) => Ok(self.lookup(number)),
-            Task::Scan(selector) => self.scan(heap, selector),
-            Task::Trace(term) => self.trace(heap, term),
+            Task::RowStore(top) => {
+                self.begin(Lists::Rows(top, Vec::new(heap)));
+                Ok(None)
+            }
+            Task::PropertyStore(top) => {
+                self.begin(Lists::Properties(top, empty_table(heap)));
+                Ok(None)
+            }
+            Task::ListedCatalogue => {
+                self.begin(Lists::Records(Vec::new(heap)));
+                Ok(None)
+            }
+            Task::InlineCatalogue => Ok(Some(self.take_inline())),
+            Task::Inverse(property, inverse) => self.lay_inverse(property, inverse).map(Some),
+            Task::Withdrawn => self.lay_withdrawn().map(Some),
+            Task::Withdraw(triple) => self.withdraw(triple).map(Some),
+            Task::Restore(triple) => self.restore(triple).map(Some),
+            Task::Seek(selector, start) => self.seek(selector, start).map(Some),
+            Task::Leap(position, selector, bound) => self.leap(position, selector, bound).map(Some),
+            Task::Lookup(number) => Ok(Some(self.lookup(number))),
+            Task::Scan(selector) => self.scan(heap, selector).map(Some),
+            Task::Trace(term) => self.trace(heap, term).map(Some),
         }
     }
 
     /// Begins a table with these lists, which are empty.
-    fn begin(&mut self, lists: Lists) -> Outcome
-        ensures { Begun (draft_of lists) self.old result self.new }
+    fn begin(&mut self, lists: Lists)
+        ensures { Begun (draft_of lists) self.old self.new }
     {
         self.loading = Some(Loading {
             lists: Ok(lists),
             lines: 0,
         });
-        Outcome::Begun
     }
 
     /// The inline catalogue becomes the current one.

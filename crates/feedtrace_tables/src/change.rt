@@ -7,8 +7,9 @@ use crate::outcome::Outcome;
 use crate::session::Session;
 use triples::triple::Triple;
 
-// Kept written out: where the change is a closure, what holds of it doesn't give what the layer promises.
 impl Session {
+    // Kept as two: one function with the change as a closure, and a contract over any such, is no shorter.
+    // Kept as a taking and a putting back: a `Result` of a layer would have to hold a store on both sides.
     /// Puts an inverse layer over the current store.
     pub(crate) fn lay_inverse(&mut self, property: u32, inverse: u32) -> Result<Outcome, Failure>
         ensures { Changed (InverseOn property inverse) self.old result self.new }
@@ -33,15 +34,13 @@ impl Session {
     pub(crate) fn withdraw(&mut self, triple: Triple) -> Result<Outcome, Failure>
         ensures { Changed (WithdrewOn triple) self.old result self.new }
     {
-        let store = self.store.as_mut().ok_or(Expected::Store)?;
-        store.withdraw(triple)
+        self.current()?.withdraw(triple)
     }
 
     /// Restores the triple to the current store.
     pub(crate) fn restore(&mut self, triple: Triple) -> Result<Outcome, Failure>
         ensures { Changed (RestoredOn triple) self.old result self.new }
     {
-        let store = self.store.as_mut().ok_or(Expected::Store)?;
-        store.restore(triple)
+        self.current()?.restore(triple)
     }
 }

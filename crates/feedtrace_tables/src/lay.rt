@@ -11,7 +11,7 @@ use layers::withdrawn::Withdrawn;
 use refusal::declined::Declined;
 use triples::triple::Triple;
 
-// Kept written out: a closure for `withdraw` or `restore` would have to bring what each promises of the layer.
+// Kept as two: one function with the call of the layer as a closure would need a clause for any such call.
 impl Layered {
     /// Puts an inverse layer over the table; another layering is left as it is.
     pub(crate) fn under_inverse(

@@ -37,7 +37,7 @@ impl Session {
     }
 
     /// The rows become the current store.
-    // Kept as three: each kind of table has its own loader, place and counts.
+    // Kept as three: loader, place and counts differ, so one function for all would take nearly each line.
     fn load_rows(&mut self, top: u32, rows: Vec<Triple>) -> Result<Outcome, Failure>
         ensures { Loaded (drafts.rows top rows.items) self.old result self.new }
     {

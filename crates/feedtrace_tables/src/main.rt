@@ -25,7 +25,6 @@ mod told;
 mod verb;
 
 use answer::Answer;
-use outcome::Outcome;
 use session::Session;
 use std::io::{BufRead, BufReader};
 
@@ -37,8 +36,8 @@ fn run(rt: &HostRuntime) -> anyhow::Result<()> {
         let line = line?;
         match session.answer(heap, line.as_slice()) {
             Ok(Some(Answer::Query(answer))) => rt.print(session.queries.reply(&answer))?,
-            Ok(Some(Answer::Task(Outcome::Begun)) | None) => {}
             Ok(Some(Answer::Task(outcome))) => rt.println(outcome)?,
+            Ok(None) => {}
             Err(failure) => rt.println(failure)?,
         }
         if let Some(lines) = session.progress() {

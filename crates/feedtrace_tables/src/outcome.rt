@@ -5,8 +5,6 @@ use triples::triple::Triple;
 /// What a task comes to, where it is carried out.
 #[derive(Drop)]
 pub enum Outcome {
-    /// A table's lines begin.
-    Begun,
     /// A row store is current: its top, and how many triples it has.
     Rows {
         top: u32,

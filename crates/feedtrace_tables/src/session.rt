@@ -46,7 +46,7 @@ impl Session {
             return self.table_line(trim(line));
         }
         match Task::parse(trim(line))? {
-            Some(task) => Ok(Some(Answer::Task(self.carry_out(heap, task)?))),
+            Some(task) => Ok(self.carry_out(heap, task)?.map(Answer::Task)),
             None => Ok(self.queries.answer(heap, line)?.map(Answer::Query)),
         }
     }

@@ -6,7 +6,6 @@ use std::fmt::{Display, Formatter, Write};
 impl fmt::Display for Outcome {
     fn fmt<W: Write>(&self, f: &mut Formatter<W>) -> fmt::Result {
         match self {
-            Outcome::Begun => Ok(()),
             Outcome::Rows { top, triples } => write!(f, "row store: top {top}, {triples} triples"),
             Outcome::Properties {
                 top,

@@ -1,11 +1,10 @@
 -- Laws of the text of bytes: each byte's digits are read as the byte. Assumes nothing.
-use Rattle.std.proofs.Common.{◌≡◌, ℕ, suc, ◌+◌, ◌-◌, ◌*◌, ◌/◌, ◌%◌, ◌^◌, ◌<◌, ◌≤◌, true, false, List, [], ◌∷◌}
+use Rattle.std.proofs.Common.{◌≡◌, ℕ, zero, suc, ◌+◌, ◌-◌, ◌*◌, ◌/◌, ◌%◌, ◌^◌, ◌<◌, ◌≤◌, true, false, List, [], ◌∷◌}
 use Rattle.std.proofs.Common.{◌++◌}
-use Rattle.std.proofs.Common.{length, get_or, take, drop, Some, None, Option, Result, sym, refl, ap, ◌∙◌}
+use Rattle.std.proofs.Common.{length, get_or, take, Some, None, Option, Result, sym, refl, ap, ◌∙◌}
 use Rattle.std.proofs.Common.{subst, arith}
 use Rattle.std.proofs.lemmas.Fmt.{hex_byte}
-use Rattle.std.proofs.lemmas.List.{take_all, take_more}
-use Rattle.std.proofs.lemmas.Slice.{first_rest}
+use Rattle.std.proofs.lemmas.List.{length-take-le, take_all, take_more}
 use Rattle.std.proofs.Output.{has_written_of_eq, has_written_append}
 use Rattle.std.proofs.lemmas.Bool.{cond-true}
 use Rattle.std.proofs.lemmas.Bool.Decides.{nat_tests}
@@ -53,17 +52,27 @@ spaced-append : (xs ys : List ℕ) → spaced (xs ++ ys) ≡ spaced xs ++ spaced
 spaced-append [] ys = refl
 spaced-append (x ∷ xs) ys = ap (λ (cs : List ℕ). space ∷ (pair x ++ cs)) (spaced-append xs ys)
 
-pub spaced_more : (bytes : List ℕ) (i : ℕ) → i < length bytes
-    → spaced (take i bytes) ++ (space ∷ pair (get_or bytes i 0)) ≡ spaced (take (i + 1) bytes)
-spaced_more bytes i h =
-    sym (ap spaced (take_more bytes i 0 h) ∙ spaced-append (take i bytes) (get_or bytes i 0 ∷ []))
+-- what stands before the byte at i
+abbrev pub lead : ℕ → List ℕ
+lead zero = []
+lead (suc i) = space ∷ []
 
-pub spaced_all : (bytes : List ℕ) (i : ℕ) → length bytes ≤ i → spaced (take i bytes) ≡ spaced bytes
-spaced_all bytes i h = ap spaced (take_all i bytes h)
+pub lead_later : (i : ℕ) → 0 < i → lead i ≡ space ∷ []
+lead_later zero h = absurd (omega arith)
+lead_later (suc i) h = refl
 
-pub text_of_first : (bytes : List ℕ) → 0 < length bytes
-    → pair (get_or bytes 0 0) ++ spaced (take (length bytes - 1) (drop 1 bytes)) ≡ text_of bytes
-text_of_first bytes h = sym (ap text_of (first_rest bytes 0 h))
+text_of-append : (xs : List ℕ) (b : ℕ) → text_of xs ++ (lead (length xs) ++ pair b) ≡ text_of (xs ++ b ∷ [])
+text_of-append [] b = refl
+text_of-append (x ∷ xs) b = ap (λ cs. pair x ++ cs) (sym (spaced-append xs (b ∷ [])))
+
+pub text_of_more : (bytes : List ℕ) (i : ℕ) → i < length bytes
+    → text_of (take i bytes) ++ (lead i ++ pair (get_or bytes i 0)) ≡ text_of (take (i + 1) bytes)
+text_of_more bytes i h =
+    ap (λ n. text_of (take i bytes) ++ (lead n ++ pair (get_or bytes i 0))) (sym (length-take-le i bytes (omega arith)))
+    ∙ text_of-append (take i bytes) (get_or bytes i 0) ∙ sym (ap text_of (take_more bytes i 0 h))
+
+pub text_of_all : (bytes : List ℕ) (i : ℕ) → length bytes ≤ i → text_of (take i bytes) ≡ text_of bytes
+text_of_all bytes i h = ap text_of (take_all i bytes h)
 
 read_pair : (b : ℕ) (bs : List ℕ) → b < 256
     → read_text (pair b ++ spaced bs) ≡ led_by (Some b) (read_text (spaced bs))

@@ -15,13 +15,9 @@ impl fmt::Display for HexText<'_> {
     ghost output = { λ t. Some (text_of t.bytes.now) };
 
     fn fmt<W: Write>(&self, f: &mut Formatter<W>) -> fmt::Result {
-        let [first, rest @ ..] = self.bytes else {
-            return Ok(());
-        };
-        let first = *first;
-        write!(f, "{first:02X}")?;
-        for &byte in rest {
-            write!(f, " {byte:02X}")?;
+        for (i, &byte) in self.bytes.iter().enumerate() {
+            let space = if i == 0 { "" } else { " " };
+            write!(f, "{space}{byte:02X}")?;
         }
         Ok(())
     }

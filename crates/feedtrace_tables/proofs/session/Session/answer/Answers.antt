@@ -1,7 +1,6 @@
 -- The line asks the task that is carried out.
-use Rattle.std.proofs.Common.{◌≡◌, false, is_some, Ok, Some, None, Option, Result, refl, sym, ap, ◌∙◌}
+use Rattle.std.proofs.Common.{rules, ◌≡◌, false, is_some, Ok, Some, None, Option, Result, sym, ap, ◌∙◌}
 use Rattle.std.proofs.Common.{MatchOption}
-use Rattle.feedtrace_tables.specs.declared.answer.Answer.TheVariants as answer
 use Rattle.feedtrace_tables.specs.declared.expected.Expected.{Expected}
 use Rattle.feedtrace_tables.specs.declared.task.Task.{Task}
 use Rattle.feedtrace_tables.specs.Forms.{task_asked}
@@ -27,6 +26,6 @@ returns-in_ok-carry_out-in-Some c =
     ap task_asked (sym c.trim-2.ensures) ∙ sym c.parse.ensures ∙ c.in_ok-task.was
     ∙ ap found c.in-Some.is in
     MatchOption-at_no c.args.self.now.loading
-    (λ _. TableLine (trimmed line) c.args.self.now (Ok (Some (answer.Task outcome))) c.carry_out.new.self)
+    (λ _. TableLine (trimmed line) c.args.self.now _ c.carry_out.new.self)
     c.if-is_some.ensures
-    (rw asks (Ok outcome, (refl, c.in_ok-carry_out-in-Some.ensures)))
+    (rw asks (Ok outcome, (search rules, c.in_ok-carry_out-in-Some.ensures)))
