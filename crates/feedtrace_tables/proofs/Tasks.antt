@@ -27,8 +27,9 @@ asked_some P s l m r is same p = (
       (sym is) p,
 )
 
-pub Comes-from_map : (P : Carried → Type 0) (r : Carried) (m : Done) (A : Outcome → Type 0)
+pub Comes-from_map : (P : Session → Carried → Session → Type 0) (s t : Session) (r : Carried) (m : Done)
+    (A : Outcome → Type 0)
     (B : Failure → Type 0) → ((o : Outcome) → A o → m ≡ Ok (Some o)) → ((e : Failure) → B e → m ≡ Err e)
-    → MatchResult r A B → P r → Comes P m
-Comes-from_map P (Ok o) m A B has fails is p = rw (has o is) p
-Comes-from_map P (Err e) m A B has fails is p = rw (fails e is) p
+    → MatchResult r A B → P s r t → Comes P s m t
+Comes-from_map P s t (Ok o) m A B has fails is p = rw (has o is) p
+Comes-from_map P s t (Err e) m A B has fails is p = rw (fails e is) p

@@ -30,23 +30,27 @@ abbrev pub Inlined : Session → Outcome → Session → Type 0
 Inlined s o t = (o ≡ outcome.Inline) × (book_entries t.book ≡ inlined) × ButBook s t
 
 -- the task has an outcome or is not carried out, and P holds of that
-abbrev pub Comes : (Carried → Type 0) → Done → Type 0
-Comes P (Ok None) = ⊥
-Comes P (Ok (Some o)) = P (Ok o)
-Comes P (Err e) = P (Err e)
+abbrev pub Comes : (Session → Carried → Session → Type 0) → Session → Done → Session → Type 0
+Comes P s (Ok None) t = ⊥
+Comes P s (Ok (Some o)) t = P s (Ok o) t
+Comes P s (Err e) t = P s (Err e) t
+
+-- the task has an outcome, and P holds of that
+abbrev pub Gives : (Session → Outcome → Session → Type 0) → Session → Done → Session → Type 0
+Gives P s r t = Comes (λ a c b. IsOkAnd c (λ o. P a o b)) s r t
 
 -- what the task answers and leaves; where it begins a table, there is no outcome yet
 abbrev pub Does : Task → Session → Done → Session → Type 0
 Does (task.RowStore top) s r t = (r ≡ Ok None) × Begun (rows top []) s t
 Does (task.PropertyStore top) s r t = (r ≡ Ok None) × Begun (properties top [] []) s t
-Does task.InlineCatalogue s r t = Comes (λ c. IsOkAnd c (λ o. Inlined s o t)) r
+Does task.InlineCatalogue s r t = Gives Inlined s r t
 Does task.ListedCatalogue s r t = (r ≡ Ok None) × Begun (records []) s t
-Does (task.Inverse p q) s r t = Comes (λ c. Changed (InverseOn p q) s c t) r
-Does task.Withdrawn s r t = Comes (λ c. Changed WithdrawnOn s c t) r
-Does (task.Withdraw x) s r t = Comes (λ c. Changed (WithdrewOn x) s c t) r
-Does (task.Restore x) s r t = Comes (λ c. Changed (RestoredOn x) s c t) r
-Does (task.Seek selector start) s r t = Comes (λ c. Asked (SeekAnswer selector start) s c t) r
-Does (task.Leap position selector bound) s r t = Comes (λ c. Asked (LeapAnswer position selector bound) s c t) r
-Does (task.Lookup number) s r t = Comes (λ c. IsOkAnd c (λ o. Looked number s o t)) r
-Does (task.Scan selector) s r t = Comes (λ c. Asked (ScanAnswer selector) s c t) r
-Does (task.Trace term) s r t = Comes (λ c. Asked (TraceAnswer term) s c t) r
+Does (task.Inverse p q) s r t = Comes (Changed (InverseOn p q)) s r t
+Does task.Withdrawn s r t = Comes (Changed WithdrawnOn) s r t
+Does (task.Withdraw x) s r t = Comes (Changed (WithdrewOn x)) s r t
+Does (task.Restore x) s r t = Comes (Changed (RestoredOn x)) s r t
+Does (task.Seek selector start) s r t = Comes (Asked (SeekAnswer selector start)) s r t
+Does (task.Leap position selector bound) s r t = Comes (Asked (LeapAnswer position selector bound)) s r t
+Does (task.Lookup number) s r t = Gives (Looked number) s r t
+Does (task.Scan selector) s r t = Comes (Asked (ScanAnswer selector)) s r t
+Does (task.Trace term) s r t = Comes (Asked (TraceAnswer term)) s r t

@@ -1,6 +1,6 @@
 -- Laws of the text of bytes: each byte's digits are read as the byte. Assumes nothing.
-use Rattle.std.proofs.Common.{◌≡◌, ℕ, zero, suc, ◌+◌, ◌-◌, ◌*◌, ◌/◌, ◌%◌, ◌^◌, ◌<◌, ◌≤◌, true, false, List, [], ◌∷◌}
-use Rattle.std.proofs.Common.{◌++◌}
+use Rattle.std.proofs.Common.{◌≡◌, ℕ, zero, suc, ◌+◌, ◌-◌, ◌*◌, ◌/◌, ◌%◌, ◌^◌, ◌<◌, ◌≤◌, true, false}
+use Rattle.std.proofs.Common.{List, [], ◌∷◌, ◌++◌}
 use Rattle.std.proofs.Common.{length, get_or, take, Some, None, Option, Result, sym, refl, ap, ◌∙◌}
 use Rattle.std.proofs.Common.{subst, arith}
 use Rattle.std.proofs.lemmas.Fmt.{hex_byte}
@@ -68,7 +68,8 @@ text_of-append (x ∷ xs) b = ap (λ cs. pair x ++ cs) (sym (spaced-append xs (b
 pub text_of_more : (bytes : List ℕ) (i : ℕ) → i < length bytes
     → text_of (take i bytes) ++ (lead i ++ pair (get_or bytes i 0)) ≡ text_of (take (i + 1) bytes)
 text_of_more bytes i h =
-    ap (λ n. text_of (take i bytes) ++ (lead n ++ pair (get_or bytes i 0))) (sym (length-take-le i bytes (omega arith)))
+    ap (λ n. text_of (take i bytes) ++ (lead n ++ pair (get_or bytes i 0)))
+    (sym (length-take-le i bytes (omega arith)))
     ∙ text_of-append (take i bytes) (get_or bytes i 0) ∙ sym (ap text_of (take_more bytes i 0 h))
 
 pub text_of_all : (bytes : List ℕ) (i : ℕ) → length bytes ≤ i → text_of (take i bytes) ≡ text_of bytes

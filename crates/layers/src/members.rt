@@ -1,5 +1,6 @@
 //! What a small set of triples holds, and how it changes.
-ghost use Rattle.std.specs.Prelude.{◌≡◌, cond, false, [], ◌∷◌, ◌++◌, length, is_ok, is_some, nat_lt, position};
+ghost use Rattle.std.specs.Prelude.{◌≡◌, cond, false, [], ◌∷◌, ◌++◌, length, is_ok, is_some};
+ghost use Rattle.std.specs.Prelude.{nat_lt, position};
 ghost use Rattle.triples.specs.Meaning.{among};
 ghost use Rattle.triples.specs.Order.{same};
 ghost use Rattle.layers.specs.Members.{members};

@@ -57,7 +57,8 @@ module _ {X : Type 0} (cmp : X → X → Ordering) (x : X) (rest : List X) where
 
   -- the list ascends where there is no place, and falls at the place otherwise
   abbrev pub Judged : Option ℕ → Type 0
-  Judged r = MatchOption r (Ascends (λ a b o. o ≡ cmp a b) (x ∷ rest)) (Falls (λ a b o. o ≡ cmp a b) (x ∷ rest))
+  Judged r =
+      MatchOption r (Ascends (λ a b o. o ≡ cmp a b) (x ∷ rest)) (Falls (λ a b o. o ≡ cmp a b) (x ∷ rest))
 
   pub ascent_found : (r s : Option ℕ) → s ≡ option_map (λ i. i + 1) r
       → MatchOption r (AllWithin Rises neighbours 0 (length neighbours))

@@ -6,8 +6,8 @@ use Rattle.std.proofs.Common.{◌++◌, map}
 use Rattle.std.proofs.Common.{length, get_or, take, drop, Some, None, Option, sym, refl, ap, ◌∙◌, subst}
 use Rattle.std.proofs.Common.{⊎_elim, arith}
 use mathlib.Core.Path.{fun_ext}
-use Rattle.std.proofs.lemmas.List.{append-nil, append_assoc, take-append-drop, map-append, get_or-take, get_or-drop}
-use Rattle.std.proofs.lemmas.List.{length-take, length-drop}
+use Rattle.std.proofs.lemmas.List.{append-nil, append_assoc, take-append-drop, map-append}
+use Rattle.std.proofs.lemmas.List.{get_or-take, get_or-drop, length-take, length-drop}
 use Rattle.std.proofs.lemmas.Bool.{both_ways, cases_Bool, leb-true, leb-false, cond-true, cond-false}
 use Rattle.std.proofs.lemmas.Bool.{or_cases}
 use Rattle.triples.specs.declared.position.Position.{Position}

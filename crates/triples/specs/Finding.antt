@@ -18,10 +18,10 @@ pub record Split {X : Type 0} (triple : X → Triple) (xs : List X) (start : Tri
   pub behind : (k : ℕ) (d : X) → i ≤ k → k < length xs → before (triple (slice_index_or xs k d)) start ≡ false
 
 -- the elements from i on stand for triples that the selector has passed, and those before i do not
-pub record Passed {X : Type 0} (triple : X → Triple) (xs : List X) (selector : Selector) (i : ℕ) : Type 0 where
+pub record Passed {X : Type 0} (triple : X → Triple) (xs : List X) (s : Selector) (i : ℕ) : Type 0 where
   pub inside : i ≤ length xs
-  pub ahead : (k : ℕ) (d : X) → k < i → passed selector (triple (slice_index_or xs k d)) ≡ false
-  pub behind : (k : ℕ) (d : X) → i ≤ k → k < length xs → passed selector (triple (slice_index_or xs k d)) ≡ true
+  pub ahead : (k : ℕ) (d : X) → k < i → passed s (triple (slice_index_or xs k d)) ≡ false
+  pub behind : (k : ℕ) (d : X) → i ≤ k → k < length xs → passed s (triple (slice_index_or xs k d)) ≡ true
 
 -- no element from the place `from` up to the place `to` matches the selector
 abbrev pub Silent : {X : Type 0} → (X → Triple) → List X → Selector → ℕ → ℕ → Type 0

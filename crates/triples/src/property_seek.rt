@@ -47,8 +47,7 @@ impl PropertyStore {
         }
     }
 
-    // Kept as two, at an entry's place: each makes another call, and written into the closures of `fold` their
-    // proofs didn't close.
+    // Kept as two: each makes another call, and written into the closures of `fold` their proofs don't close.
     /// The earlier of `least` and the least triple of entry `i` that matches the selector but for its
     /// property and is not below the start. Within an entry the property is known, so its pairs are sought
     /// by subject and object.

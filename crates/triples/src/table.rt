@@ -12,8 +12,7 @@ use crate::selector::ANY;
 use crate::store::is_term;
 use std::ops::Range;
 
-// Kept by index, and with its clause: the first entry has none before it, so a walk over neighbours would leave
-// it out, and what a place lies in is the directory of that call.
+// Kept by index: the first entry has none before it, so a walk over neighbours would leave it out.
 /// Whether entry `i` goes on from the one before it: the first begins at place 0, a later one has a larger
 /// property and no smaller place.
 fn is_next(directory: &[DirectoryEntry], i: usize) -> bool

@@ -14,7 +14,8 @@ returns g c =
     subst (λ (xs : List g.row.T.Denot). MatchOption c.map.result (Ascends (λ a b o. o ≡ cmp a b) xs)
     (Falls (λ a b o. o ≡ cmp a b) xs)) (sym is)
     (ascent_found cmp x rest c.position.result c.map.result (search rules)
-    (IsFirst-from_position c.position.new.self _ c.position.result (Sinks cmp x rest) (Rises cmp x rest) c.position.ensures.ran
+    (IsFirst-from_position c.position.new.self _ c.position.result (Sinks cmp x rest) (Rises cmp x rest)
+    c.position.ensures.ran
     (YieldsList-from_zip
     (YieldsList-at c.zip.ensures.first (YieldsList-from_slice _ (c.iter.ensures.rest ∙ is)))
     (YieldsList-from_slice rest c.zip.ensures.second.0))
