@@ -6,7 +6,7 @@ ghost use Rattle.catalogue.specs.Records.{first_invalid};
 
 use crate::listed::{Listed, MOST_RECORDS};
 use crate::record::Record;
-use refusal::declined::Declined;
+use refusal::declined::{Declined, accepted};
 use refusal::refusal::Refusal;
 use refusal::rejection::Rejection;
 
@@ -17,14 +17,8 @@ impl Listed {
     pub fn load(records: Vec<Record>) -> Result<Listed, Declined<Vec<Record>>>
         ensures { Loaded records result }
     {
-        // Kept as a match: a closure for the refusal would take the list from the other case.
-        match check(&records) {
-            Ok(()) => Ok(Listed { records }),
-            Err(rejection) => Err(Declined {
-                rejection,
-                given: records,
-            }),
-        }
+        let records = accepted(check(&records), records)?;
+        Ok(Listed { records })
     }
 
     /// How many records there are.

@@ -9,7 +9,7 @@ use crate::pair::Pair;
 use crate::property_store::{MOST_ENTRIES, MOST_PAIRS, PropertyStore, PropertyTable};
 use crate::store::LARGEST_TOP;
 use crate::table::{Table, first_broken};
-use refusal::declined::Declined;
+use refusal::declined::{Declined, accepted};
 use refusal::refusal::Refusal;
 use refusal::rejection::Rejection;
 
@@ -50,21 +50,13 @@ impl PropertyStore {
     pub fn load(top: u32, table: PropertyTable) -> Result<PropertyStore, Declined<PropertyTable>>
         ensures { TableLoaded top table result }
     {
-        // Kept as a match: a closure for the refusal would take the list from the other case.
-        match check(top, &table.directory, &table.pairs) {
-            Ok(()) => {
-                let PropertyTable { directory, pairs } = table;
-                Ok(PropertyStore {
-                    top,
-                    directory,
-                    pairs,
-                })
-            }
-            Err(rejection) => Err(Declined {
-                rejection,
-                given: table,
-            }),
-        }
+        let table = accepted(check(top, &table.directory, &table.pairs), table)?;
+        let PropertyTable { directory, pairs } = table;
+        Ok(PropertyStore {
+            top,
+            directory,
+            pairs,
+        })
     }
 
     /// The number of directory entries.

@@ -8,7 +8,7 @@ use crate::element::first_outside;
 use crate::row_store::{MOST_TRIPLES, RowStore};
 use crate::store::LARGEST_TOP;
 use crate::triple::Triple;
-use refusal::declined::Declined;
+use refusal::declined::{Declined, accepted};
 use refusal::refusal::Refusal;
 use refusal::rejection::Rejection;
 
@@ -36,14 +36,8 @@ impl RowStore {
     pub fn load(top: u32, rows: Vec<Triple>) -> Result<RowStore, Declined<Vec<Triple>>>
         ensures { RowsLoaded top rows result }
     {
-        // Kept as a match: a closure for the refusal would take the list from the other case.
-        match check(top, &rows) {
-            Ok(()) => Ok(RowStore { top, rows }),
-            Err(rejection) => Err(Declined {
-                rejection,
-                given: rows,
-            }),
-        }
+        let rows = accepted(check(top, &rows), rows)?;
+        Ok(RowStore { top, rows })
     }
 
     /// The number of triples.

@@ -1,6 +1,7 @@
 -- Where the records are not refused, none of them is invalid.
 use Rattle.std.proofs.Common.{◌≡◌, ◌≤◌, Bool, true, false, cond, not, List, [], ◌∷◌, length, Some}
-use Rattle.std.proofs.Common.{None, refl, subst, arith}
+use Rattle.std.proofs.Common.{None, refl, sym, subst, arith, Result, MatchResult, Vec, Global}
+use Rattle.refusal.specs.declared.rejection.Rejection.{Rejection}
 use Rattle.std.proofs.lemmas.Bool.{ltb-false}
 use Rattle.std.proofs.lemmas.Bool.Decides.{nat_tests}
 use Rattle.std.specs.List.{list_all, position_or_len}
@@ -27,5 +28,10 @@ valid_from_none records e = all_from_none valid records (ltb-false _ _ (none_par
 
 pub invariant_of-result-clause-sound : goal.invariant_of-result-clause-sound
 invariant_of-result-clause-sound c =
-    subst (λ (rs : List Record). all_valid rs ≡ true) c.deref.ensures.value
-    (valid_from_none c.deref.result.now c.in-Ok.ensures)
+    let given = c.in_ok-records.ensures in
+    let judged = subst
+    (λ (r : Result (Unit {0}) Rejection). MatchResult r (λ _. listed_outcome c.deref.result.now ≡ None)
+    (λ e. listed_outcome c.deref.result.now ≡ Some e)) given.0 c.check.ensures in
+    subst (λ (v : Vec Record Global). all_valid v.items ≡ true) (sym given.1)
+    (subst (λ (rs : List Record). all_valid rs ≡ true) c.deref.ensures.value
+    (valid_from_none c.deref.result.now judged))
