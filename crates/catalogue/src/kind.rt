@@ -16,7 +16,7 @@ pub enum Kind {
     Integer = 3,
 }
 
-// Kept as methods: both are published, and a published function stays.
+// Kept as methods: both are public and stay so, and `From` and `TryFrom` would say the same twice.
 impl Kind {
     /// The published number of the kind.
     pub fn number(self) -> u32

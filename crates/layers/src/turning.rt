@@ -12,6 +12,8 @@ use triples::selector::{ANY, Selector};
 use triples::store::Store;
 use triples::triple::{ORIGIN, Triple};
 
+// Kept as arguments: they are those of a store's own calls, which are published.
+// Kept in each clause: a store may move things about when asked; no invariant tells what it meant before.
 impl Turn {
     /// Which triples to ask for where the selector says which turned ones; none where no turned one is
     /// wanted, or the inverse is over the top.
@@ -38,8 +40,6 @@ impl Turn {
         }
     }
 
-    // Kept as arguments: they are those of a store's own calls, which are published.
-    // Kept in each clause: a store may move things about when asked; no invariant tells what it meant before.
     /// The smallest number from the bound on at the position of a turned triple that matches the selector.
     pub(crate) fn leap<S: Store>(
         self,

@@ -50,7 +50,7 @@ pub enum Refusal {
     BufferShort = 34,
 }
 
-// Kept as a method: it is published, and a public function stays.
+// Kept as a method: it is public and stays so, and a `From` beside it would say the same twice.
 impl Refusal {
     /// The published number of the refusal.
     pub fn number(self) -> u32

@@ -7,7 +7,7 @@ use std::alloc::{AllocError, Global};
 use triples::store::Store;
 
 // Kept as a clause: a store may move things about when asked; no invariant tells what it meant before.
-// Kept as parameters: `scan` and `trace` are published with theirs, and a struct would serve one call.
+// Kept as parameters: `scan` and `trace` are public with theirs, and the marks go on from `level` to `visit`.
 /// The terms one step from those of `front` that are not seen yet, each once, ascending. Marks them as seen.
 pub(crate) fn level<S: Store>(
     heap: Global,

@@ -33,7 +33,7 @@ impl PropertyStore {
         }
     }
 
-    // Kept as a clause of three: `run` cuts at the entry's place and the next, so an entry alone wouldn't do.
+    // Kept as a clause of three: a type of places would hold the store, and each of the three makes one call.
     /// The pairs of entry `i`, under its property.
     fn run(&self, i: usize) -> Run<'_, Pair>
         requires { i < vec_len self.now.directory }

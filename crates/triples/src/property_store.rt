@@ -19,6 +19,7 @@ pub const MOST_PAIRS: usize = 1_000_000;
 pub struct PropertyStore {
     /// At most 1,000,000.
     pub(crate) top: u32,
+    // Kept as a directory with places: a table is published in this form, and loading it allocates nothing.
     /// Properties ascend strictly from 1 to the top; first places begin at 0, never fall, and pass no pair.
     pub(crate) directory: Vec<DirectoryEntry>,
     /// Each entry's ascend strictly; each number is from 1 to the top.

@@ -27,6 +27,7 @@ fn offer(triple: Triple, position: Position, selector: Selector, bound: u32) -> 
     (selector.matches(triple) && bound <= number).then_some(number)
 }
 
+// Kept as arguments: a question comes as the calls of a store have it, which are published.
 impl<'a, T: Element> Run<'a, T> {
     /// How many elements stand for a triple before the start.
     fn lower_bound(&self, start: Triple) -> usize

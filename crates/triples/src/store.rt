@@ -62,7 +62,7 @@ pub trait Store {
             return offered(found, position, bound);
         }
         let top = self.top();
-        // Kept as a loop: each step asks the store through `&mut self`, which `find` would hide in a closure.
+        // Kept as a loop: a proof knows nothing of a store that a closure under `find` has asked.
         for number in first_term(bound)..top + 1 {
             if self.seek(selector.with(position, number), ORIGIN).is_some() {
                 return Some(number);
