@@ -11,7 +11,6 @@ use layers::withdrawn::Withdrawn;
 use refusal::declined::Declined;
 use triples::triple::Triple;
 
-// Kept as two: one function with the call of the layer as a closure would need a clause for any such call.
 impl Layered {
     /// Puts an inverse layer over the table; another layering is left as it is.
     pub(crate) fn under_inverse(
@@ -43,6 +42,7 @@ impl Layered {
         }
     }
 
+    // Kept as two, as `restore`: one function given the layer's call would need a clause over any such call.
     /// Withdraws the triple, if a withdrawn layer is on top: so many are withdrawn then.
     pub(crate) fn withdraw(&mut self, triple: Triple) -> Result<Outcome, Failure>
         ensures { WithdrewOn triple self.old result self.new }
