@@ -12,6 +12,8 @@ use refusal::declined::Declined;
 use triples::triple::Triple;
 
 impl Layered {
+    // Kept as a pair, as below: layers take the store by value, and it comes back where none is laid.
+    // Kept as two numbers, as a layer takes them: they are tested only there.
     /// Puts an inverse layer over the table; another layering is left as it is.
     pub(crate) fn under_inverse(
         self,
@@ -42,7 +44,7 @@ impl Layered {
         }
     }
 
-    // Kept as two, as `restore`: one function given the layer's call would need a clause over any such call.
+    // Kept as two, with `restore`: a function given the layer's call would need a clause over any such call.
     /// Withdraws the triple, if a withdrawn layer is on top: so many are withdrawn then.
     pub(crate) fn withdraw(&mut self, triple: Triple) -> Result<Outcome, Failure>
         ensures { WithdrewOn triple self.old result self.new }
