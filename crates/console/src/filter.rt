@@ -56,14 +56,6 @@ impl fmt::Display for Expression<'_> {
     }
 }
 
-/// What stands between the two nodes that a node names.
-fn sign_of(node: Node) -> &'static str {
-    match node {
-        Node::And(_, _) => " && ",
-        _ => " || ",
-    }
-}
-
 // Kept as functions: where `write!` calls a `Display` that leads back to its caller, the proof doesn't close.
 /// Writes the expression of the last node, with the nodes that it names in their places.
 #[cycle(expression)]
@@ -76,15 +68,26 @@ fn put_expression<W: Write>(nodes: &[Node], f: &mut Formatter<W>) -> fmt::Result
             f.write_char('!')?;
             put_operand(below, a, f)
         }
-        Node::And(a, b) | Node::Or(a, b) => {
-            f.write_char('(')?;
-            put_operand(below, a, f)?;
-            f.write_str(sign_of(*node))?;
-            put_operand(below, b, f)?;
-            f.write_char(')')
-        }
+        Node::And(a, b) => put_both(below, a, " && ", b, f),
+        Node::Or(a, b) => put_both(below, a, " || ", b, f),
         node => write!(f, "{}", Named(node)),
     }
+}
+
+/// Writes the expressions of two nodes in brackets, with the sign between.
+#[cycle(expression)]
+fn put_both<W: Write>(
+    below: &[Node],
+    a: u32,
+    sign: &str,
+    b: u32,
+    f: &mut Formatter<W>,
+) -> fmt::Result {
+    f.write_char('(')?;
+    put_operand(below, a, f)?;
+    f.write_str(sign)?;
+    put_operand(below, b, f)?;
+    f.write_char(')')
 }
 
 /// Writes the expression of the node `number`, or its name where it is not among the nodes below.
@@ -104,6 +107,7 @@ impl fmt::Display for Numbered<'_> {
     fn fmt<W: Write>(&self, f: &mut Formatter<W>) -> fmt::Result {
         let last = self.0.len().saturating_sub(1);
         write!(f, "(n{last}) WHERE ")?;
+        // Kept in the loop: after `split_first` the number and its node would be written at two places.
         for (i, node) in self.0.iter().enumerate() {
             let node = Named(*node);
             f.write_str(if i == 0 { "" } else { ", " })?;

@@ -28,6 +28,7 @@ impl fmt::Display for Listing<'_> {
                 write!(f, "{group}")?
             }
             several => {
+                // Kept in the loop: after `split_first` a group in its braces would be written at two places.
                 for (i, parts) in several.iter().enumerate() {
                     let indent = INNER;
                     let group = Group { parts, indent };

@@ -5,7 +5,7 @@ use crate::answer::Answer;
 use crate::listing::Listing;
 use query::alternative::Alternative;
 use std::fmt;
-use std::fmt::{Display, Formatter, Write};
+use std::fmt::{Formatter, Write};
 
 /// An answer with the alternatives of the current query, which shows as whole lines: the listing for `Shown`,
 /// and one line for any other answer.

@@ -19,7 +19,7 @@ use triples::store::Store;
 use triples::triple::Triple;
 
 impl Session {
-    // Kept as a match: behind `ok_or` the result is not followed back, so the first clause does not close.
+    // Kept as a match: through `ok_or` the proof loses that the store is lent, so `lends` doesn't close.
     /// The current store.
     pub(crate) fn current(&mut self) -> Result<&mut Layered, Expected>
         ensures* lends { sem 𝓛 (LendsStore self.entry result) }

@@ -9,7 +9,8 @@ use triples::triple::Triple;
 
 impl Session {
     // Kept as two: one function with the change as a closure, and a contract over any such, is no shorter.
-    // Kept as a taking and a putting back: a `Result` of a layer would have to hold a store on both sides.
+    // Kept as a taking and a putting back: layers take the store by value, and it comes back where they fail.
+    // Kept as two numbers, as a layer takes them: they are tested only there.
     /// Puts an inverse layer over the current store.
     pub(crate) fn lay_inverse(&mut self, property: u32, inverse: u32) -> Result<Outcome, Failure>
         ensures { Changed (InverseOn property inverse) self.old result self.new }

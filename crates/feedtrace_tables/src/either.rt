@@ -10,8 +10,8 @@ use triples::selector::Selector;
 use triples::store::Store;
 use triples::triple::Triple;
 
+// Kept as a type of its own: the two traits are other crates', so the kit's `Either` can't have them here.
 /// One of the two.
-// Kept as a type of its own: the two traits are other crates', and so would be the type.
 #[derive(Drop)]
 pub(crate) enum Either<A, B> {
     Left(A),

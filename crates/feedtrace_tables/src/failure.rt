@@ -12,7 +12,7 @@ use std::alloc::AllocError;
 use std::fmt;
 use std::fmt::{Formatter, Write};
 
-// Kept beside the queries' own: one type over any `E` has no `From<E>`, which `From<Rejection>` overlaps.
+// Kept beside the queries' own: in a `Failure<E>` the impls of `From<E>` and `From<Rejection>` overlap.
 /// Why a line has no answer. It shows as its line, without the line's end.
 #[derive(Clone, Copy)]
 pub enum Failure {

@@ -63,7 +63,7 @@ impl<'a> Fields<'a> {
     }
 
     /// The word `from`, if it stands first.
-    pub(crate) fn from(&mut self) -> Option<()>
+    pub(crate) fn from_word(&mut self) -> Option<()>
         ensures { Parted result self.new.rest.now (first_from self.old.rest.now) }
     {
         match self.word() {

@@ -88,7 +88,7 @@ impl Fields<'_> {
         ensures { Parted result self.new.rest.now (seek_form self.old.rest.now) }
     {
         let wanted = self.triple()?;
-        self.from()?;
+        self.from_word()?;
         let start = self.triple()?;
         Some(Task::Seek(wanted.into(), start))
     }
@@ -99,7 +99,7 @@ impl Fields<'_> {
     {
         let position = self.position()?;
         let wanted = self.triple()?;
-        self.from()?;
+        self.from_word()?;
         let bound = self.number()?;
         (wanted.value(position) == ANY).then_some(Task::Leap(position, wanted.into(), bound))
     }

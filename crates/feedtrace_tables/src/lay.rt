@@ -11,8 +11,9 @@ use layers::withdrawn::Withdrawn;
 use refusal::declined::Declined;
 use triples::triple::Triple;
 
-// Kept as two: one function with the call of the layer as a closure would need a clause for any such call.
 impl Layered {
+    // Kept as a pair, as below: layers take the store by value, and it comes back where none is laid.
+    // Kept as two numbers, as a layer takes them: they are tested only there.
     /// Puts an inverse layer over the table; another layering is left as it is.
     pub(crate) fn under_inverse(
         self,
@@ -43,6 +44,7 @@ impl Layered {
         }
     }
 
+    // Kept as two, with `restore`: a function given the layer's call would need a clause over any such call.
     /// Withdraws the triple, if a withdrawn layer is on top: so many are withdrawn then.
     pub(crate) fn withdraw(&mut self, triple: Triple) -> Result<Outcome, Failure>
         ensures { WithdrewOn triple self.old result self.new }

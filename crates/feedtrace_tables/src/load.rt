@@ -36,8 +36,8 @@ impl Session {
         self.store = Some(bare(table));
     }
 
+    // Kept as three: loader, place and counts differ; a shared one would take nearly every line as a closure.
     /// The rows become the current store.
-    // Kept as three: loader, place and counts differ, so one function for all would take nearly each line.
     fn load_rows(&mut self, top: u32, rows: Vec<Triple>) -> Result<Outcome, Failure>
         ensures { Loaded (drafts.rows top rows.items) self.old result self.new }
     {

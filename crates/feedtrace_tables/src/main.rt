@@ -28,6 +28,7 @@ use answer::Answer;
 use session::Session;
 use std::io::{BufRead, BufReader};
 
+// Kept beside the other console's: one for both would need a trait of sessions, for a loop of a few lines.
 /// Answers every line of standard input.
 fn run(rt: &HostRuntime) -> anyhow::Result<()> {
     let heap = rt.alloc();

@@ -1,7 +1,6 @@
 //! Numbers with a sign, as decimal digits.
 ghost use Rattle.std.specs.Prelude.{◌≡◌};
-ghost use Rattle.console.specs.Numerals.{number_from};
-ghost use Rattle.feedtrace_tables.specs.Numerals.{signed_from, below, above, most_below, most_above};
+ghost use Rattle.feedtrace_tables.specs.Numerals.{signed_from};
 
 use console::number::number_of;
 

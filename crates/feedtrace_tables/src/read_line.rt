@@ -9,10 +9,10 @@ impl Loading {
         ensures { LineRead (pending_of self.old) text.now (pending_of self.new) }
     {
         self.lines = self.lines.saturating_add(1);
-        if let Ok(lists) = &mut self.lists {
-            if let Err(expected) = lists.take(text) {
-                self.lists = Err(expected);
-            }
+        if let Ok(lists) = &mut self.lists
+            && let Err(expected) = lists.take(text)
+        {
+            self.lists = Err(expected);
         }
     }
 }

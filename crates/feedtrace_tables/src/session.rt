@@ -42,10 +42,11 @@ impl Session {
     pub(crate) fn answer(&mut self, heap: Global, line: &[u8]) -> Result<Option<Answer>, Failure>
         ensures { Answered line.now self.old result self.new }
     {
+        let text = trim(line);
         if self.loading.is_some() {
-            return self.table_line(trim(line));
+            return self.table_line(text);
         }
-        match Task::parse(trim(line))? {
+        match Task::parse(text)? {
             Some(task) => Ok(self.carry_out(heap, task)?.map(Answer::Task)),
             None => Ok(self.queries.answer(heap, line)?.map(Answer::Query)),
         }

@@ -12,7 +12,7 @@ use triples::pair::Pair;
 use triples::property_store::PropertyTable;
 use triples::triple::Triple;
 
-// Kept as one function an element: each reads other fields, and one over all would take them as closures.
+// Kept as one function for each element: each reads other fields, and one over all would take closures.
 impl Fields<'_> {
     /// A triple, if nothing follows it.
     fn row(mut self) -> Option<Triple>

@@ -1,7 +1,7 @@
 -- The word of these bytes is from.
 use Rattle.std.proofs.Common.{codes, refl, sym, ◌∙◌, arith, rules}
 use Rattle.std.proofs.lemmas.Slice.Eq.{text_from_reads}
-use Rattle.feedtrace_tables.proofs.field.Fields.from.Goals as goal
+use Rattle.feedtrace_tables.proofs.field.Fields.from_word.Goals as goal
 
 pub returns-in-from : goal.returns-in-from
 returns-in-from c =
