@@ -11,7 +11,7 @@ use triples::row_store::RowStore;
 use triples::store::Store;
 use triples::triple::ORIGIN;
 
-// Kept as an enum in a table of cases: function pointers there would need a contract for any such call.
+// Kept as an enum: a constant cannot hold a method as a value, and two functions around them are no shorter.
 /// What is asked of a store with withdrawn triples.
 enum Call {
     Withdraw,
