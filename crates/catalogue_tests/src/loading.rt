@@ -70,12 +70,10 @@ fn a_million_records_are_taken(rt: HostRuntime) -> Result<(), Fail> {
 #[test]
 fn a_million_and_one_are_refused_before_a_bad_record_is(rt: HostRuntime) -> Result<(), Fail> {
     let bad = Record { kind: 0, value: 0 };
-    match Listed::load(vec![in rt.alloc(); bad; 1_000_001]?) {
-        Ok(_) => Err(Fail::new("taken")),
-        Err(declined) => {
-            assert_eq!(rt; <(u32, usize)>::from(declined.rejection), (1, 0));
-            assert_eq!(rt; declined.given.len(), 1_000_001);
-            Ok(())
-        }
-    }
+    let Err(declined) = Listed::load(vec![in rt.alloc(); bad; 1_000_001]?) else {
+        return Err(Fail::new("taken"));
+    };
+    assert_eq!(rt; <(u32, usize)>::from(declined.rejection), (1, 0));
+    assert_eq!(rt; declined.given.len(), 1_000_001);
+    Ok(())
 }

@@ -122,14 +122,12 @@ fn a_property_that_is_no_term_is_refused_and_the_store_comes_back(
     rt: HostRuntime,
 ) -> Result<(), Fail> {
     for (name, property, inverse) in REFUSED {
-        match Inverse::new(row_store(rt.alloc(), &LIST)?, property, inverse) {
-            Ok(_) => return Err(Fail::new(name)),
-            Err(declined) => {
-                assert_eq!(rt; said(declined.rejection), (25, 0), "{}", name);
-                let mut given = declined.given;
-                agree(name, &mut given, &mut row_store(rt.alloc(), &LIST)?)?;
-            }
-        }
+        let Err(declined) = Inverse::new(row_store(rt.alloc(), &LIST)?, property, inverse) else {
+            return Err(Fail::new(name));
+        };
+        assert_eq!(rt; said(declined.rejection), (25, 0), "{}", name);
+        let mut given = declined.given;
+        agree(name, &mut given, &mut row_store(rt.alloc(), &LIST)?)?;
     }
     Ok(())
 }
@@ -137,10 +135,10 @@ fn a_property_that_is_no_term_is_refused_and_the_store_comes_back(
 #[test]
 fn the_turned_triples_come_with_those_below(rt: HostRuntime) -> Result<(), Fail> {
     for (name, property, inverse, list) in TURNED {
-        match Inverse::new(property_store(rt.alloc())?, property, inverse) {
-            Ok(mut store) => agree(name, &mut store, &mut row_store(rt.alloc(), list)?)?,
-            Err(_) => return Err(Fail::new(name)),
-        }
+        let Ok(mut store) = Inverse::new(property_store(rt.alloc())?, property, inverse) else {
+            return Err(Fail::new(name));
+        };
+        agree(name, &mut store, &mut row_store(rt.alloc(), list)?)?;
     }
     Ok(())
 }

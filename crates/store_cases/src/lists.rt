@@ -25,6 +25,7 @@ pub const DIRECTORY: [(u32, u32); 5] = [(1, 0), (2, 0), (3, 3), (4, 3), (5, 6)];
 /// The pairs of the same triples.
 pub const PAIRS: [(u32, u32); 6] = [(1, 1), (2, 3), (5, 1), (1, 5), (2, 1), (2, 4)];
 
+// Kept as three functions: one for all, given a closure and clauses on its calls, proves and is longer.
 /// The triples of these numbers.
 pub fn rows(heap: Global, list: &[(u32, u32, u32)]) -> Result<Vec<Triple>, AllocError>
     ensures { IfOk result (λ v. v.items ≡ map triple_from list.now) }

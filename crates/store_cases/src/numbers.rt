@@ -10,7 +10,7 @@ use triples::triple::Triple;
 /// Each term, 0, the number over the top, and the largest: as entries of selectors and starts, and as bounds.
 pub const NUMBERS: [u32; 8] = [0, 1, 2, 3, 4, 5, 6, 4_294_967_295];
 
-// Kept as functions: neither tuples nor triples are this crate's own, so no `From` can stand here.
+// Kept as two functions: no tuple, triple or selector is this crate's own, so no `From` can stand here.
 /// The triple of these numbers.
 pub fn triple_of(numbers: (u32, u32, u32)) -> Triple
     ensures { result ≡ triple_from numbers }
@@ -27,14 +27,10 @@ pub fn triple_of(numbers: (u32, u32, u32)) -> Triple
 pub fn selector_of(entries: (u32, u32, u32)) -> Selector
     ensures { result ≡ selector_from entries }
 {
-    let (subject, property, object) = entries;
-    Selector {
-        subject,
-        property,
-        object,
-    }
+    triple_of(entries).into()
 }
 
+// Kept as a function: it is public, and a public function stays; the `From` it calls is that of `refusal`.
 /// The published number of the refusal, and its place.
 pub fn said(rejection: Rejection) -> (u32, usize)
     ensures { result ≡ (published rejection.refusal, rejection.place) }

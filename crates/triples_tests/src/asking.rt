@@ -85,50 +85,55 @@ const SOUGHT: [Question; 14] = [
     ("a number over the top", (6, 0, 0), (0, 0, 0), None),
 ];
 
-/// Whether seek answers as the loop does, from every start.
-fn seeks_agree<S: Store>(store: &mut S, selector: (u32, u32, u32)) -> bool {
+// Kept beside its twin in `layers_tests`: a public one would need a contract over each call of the closure.
+/// Asks for every three of the numbers, up to the first failure.
+fn each_three<F: FnMut((u32, u32, u32)) -> Result<(), Fail>>(mut ask: F) -> Result<(), Fail>
+    requires { F.IsAlwaysCallable ask }
+{
     for subject in NUMBERS {
         for property in NUMBERS {
             for object in NUMBERS {
-                let start = (subject, property, object);
-                let found = store.seek(selector_of(selector), triple_of(start));
-                if found != least(&LIST, selector, start).map(triple_of) {
-                    return false;
-                }
+                ask((subject, property, object))?;
             }
         }
     }
-    true
+    Ok(())
+}
+
+/// Fails, unless seek answers as the loop does, from every start.
+fn seeks_agree<S: Store>(store: &mut S, selector: (u32, u32, u32)) -> Result<(), Fail> {
+    each_three(|start| {
+        let found = store.seek(selector_of(selector), triple_of(start));
+        if found == least(&LIST, selector, start).map(triple_of) {
+            Ok(())
+        } else {
+            Err(Fail::new("seek"))
+        }
+    })
 }
 
 /// Whether leap answers as the loop does, at every position and from every bound.
 fn leaps_agree<S: Store>(store: &mut S, selector: (u32, u32, u32)) -> bool {
-    for position in [Position::Subject, Position::Property, Position::Object] {
-        for bound in NUMBERS {
-            let found = store.leap(position, selector_of(selector), bound);
-            if found != smallest(&LIST, position, selector, bound) {
-                return false;
-            }
-        }
-    }
-    true
+    [Position::Subject, Position::Property, Position::Object]
+        .into_iter()
+        .all(|position| {
+            NUMBERS.into_iter().all(|bound| {
+                let found = store.leap(position, selector_of(selector), bound);
+                found == smallest(&LIST, position, selector, bound)
+            })
+        })
 }
 
 /// Fails, unless seek and leap answer as the loops do for every selector, and the top is 5.
 fn agrees<S: Store>(store: &mut S) -> Result<(), Fail> {
-    for subject in NUMBERS {
-        for property in NUMBERS {
-            for object in NUMBERS {
-                let selector = (subject, property, object);
-                if !seeks_agree(store, selector) {
-                    return Err(Fail::new("seek"));
-                }
-                if !leaps_agree(store, selector) {
-                    return Err(Fail::new("leap"));
-                }
-            }
+    each_three(|selector| {
+        seeks_agree(store, selector)?;
+        if leaps_agree(store, selector) {
+            Ok(())
+        } else {
+            Err(Fail::new("leap"))
         }
-    }
+    })?;
     if store.top() != 5 {
         return Err(Fail::new("top"));
     }

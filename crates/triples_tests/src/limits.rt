@@ -28,18 +28,16 @@ fn ascending_rows(heap: Global, count: u32) -> Result<Vec<Triple>, AllocError> {
 
 #[test]
 fn a_million_rows_are_taken_and_one_more_is_refused(rt: HostRuntime) -> Result<(), Fail> {
-    match RowStore::load(1_000_000, ascending_rows(rt.alloc(), 1_000_000)?) {
-        Ok(store) => assert_eq!(rt; store.len(), 1_000_000),
-        Err(_) => return Err(Fail::new("a million rows were refused")),
-    }
-    match RowStore::load(1, vec![in rt.alloc(); ORIGIN; 1_000_001]?) {
-        Ok(_) => Err(Fail::new("a million and one rows were taken")),
-        Err(declined) => {
-            assert_eq!(rt; said(declined.rejection), (1, 0));
-            assert_eq!(rt; declined.given.len(), 1_000_001);
-            Ok(())
-        }
-    }
+    let Ok(store) = RowStore::load(1_000_000, ascending_rows(rt.alloc(), 1_000_000)?) else {
+        return Err(Fail::new("a million rows were refused"));
+    };
+    assert_eq!(rt; store.len(), 1_000_000);
+    let Err(declined) = RowStore::load(1, vec![in rt.alloc(); ORIGIN; 1_000_001]?) else {
+        return Err(Fail::new("a million and one rows were taken"));
+    };
+    assert_eq!(rt; said(declined.rejection), (1, 0));
+    assert_eq!(rt; declined.given.len(), 1_000_001);
+    Ok(())
 }
 
 #[test]
@@ -51,15 +49,13 @@ fn a_million_equal_rows_are_within_the_limit_but_do_not_ascend(
         property: 1,
         object: 1,
     };
-    match RowStore::load(1, vec![in rt.alloc(); row; 1_000_000]?) {
-        Ok(_) => Err(Fail::new("equal rows were taken")),
-        Err(declined) => {
-            assert_eq!(rt; declined.rejection.refusal.number(), 4);
-            assert!(rt; declined.rejection.place > 0);
-            assert_eq!(rt; declined.given.len(), 1_000_000);
-            Ok(())
-        }
-    }
+    let Err(declined) = RowStore::load(1, vec![in rt.alloc(); row; 1_000_000]?) else {
+        return Err(Fail::new("equal rows were taken"));
+    };
+    assert_eq!(rt; declined.rejection.refusal.number(), 4);
+    assert!(rt; declined.rejection.place > 0);
+    assert_eq!(rt; declined.given.len(), 1_000_000);
+    Ok(())
 }
 
 #[test]
@@ -71,13 +67,11 @@ fn a_million_pairs_are_within_the_limit_and_one_more_is_not(rt: HostRuntime) -> 
     for (count, number) in [(1_000_000, 3), (1_000_001, 1)] {
         let directory = empty_entries(rt.alloc(), 1)?;
         let pairs = vec![in rt.alloc(); bad; count]?;
-        match PropertyStore::load(1, PropertyTable { directory, pairs }) {
-            Ok(_) => return Err(Fail::new("bad pairs were taken")),
-            Err(declined) => {
-                assert_eq!(rt; said(declined.rejection), (number, 0));
-                assert_eq!(rt; declined.given.pairs.len(), count);
-            }
-        }
+        let Err(declined) = PropertyStore::load(1, PropertyTable { directory, pairs }) else {
+            return Err(Fail::new("bad pairs were taken"));
+        };
+        assert_eq!(rt; said(declined.rejection), (number, 0));
+        assert_eq!(rt; declined.given.pairs.len(), count);
     }
     Ok(())
 }
@@ -88,20 +82,18 @@ fn a_directory_of_4096_is_taken_and_one_of_4097_is_refused(rt: HostRuntime) -> R
         directory: empty_entries(rt.alloc(), 4096)?,
         pairs: Vec::new(rt.alloc()),
     };
-    match PropertyStore::load(1_000_000, longest) {
-        Ok(store) => assert_eq!(rt; (store.entries(), store.len()), (4096, 0)),
-        Err(_) => return Err(Fail::new("4,096 entries were refused")),
-    }
+    let Ok(store) = PropertyStore::load(1_000_000, longest) else {
+        return Err(Fail::new("4,096 entries were refused"));
+    };
+    assert_eq!(rt; (store.entries(), store.len()), (4096, 0));
     let longer = PropertyTable {
         directory: empty_entries(rt.alloc(), 4097)?,
         pairs: Vec::new(rt.alloc()),
     };
-    match PropertyStore::load(1_000_000, longer) {
-        Ok(_) => Err(Fail::new("4,097 entries were taken")),
-        Err(declined) => {
-            assert_eq!(rt; said(declined.rejection), (1, 0));
-            assert_eq!(rt; declined.given.directory.len(), 4097);
-            Ok(())
-        }
-    }
+    let Err(declined) = PropertyStore::load(1_000_000, longer) else {
+        return Err(Fail::new("4,097 entries were taken"));
+    };
+    assert_eq!(rt; said(declined.rejection), (1, 0));
+    assert_eq!(rt; declined.given.directory.len(), 4097);
+    Ok(())
 }

@@ -162,6 +162,7 @@ const CASES: [Case; 24] = [
     },
 ];
 
+// Kept beside that of `table_loading`: one for both would take the load and both comparisons as closures.
 /// Fails under a case's name, unless each list is taken or refused as it says, and comes back as it was where
 /// it is refused.
 fn cases_hold(rt: &impl Abort, heap: Global, cases: &[Case]) -> Result<(), Fail> {

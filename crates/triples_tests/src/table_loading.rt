@@ -297,6 +297,7 @@ const PAIRS: [Case; 14] = [
     },
 ];
 
+// Kept beside that of `row_loading`: one for both would take the load and both comparisons as closures.
 /// Fails under a case's name, unless each table is taken or refused as it says, and comes back as it was
 /// where it is refused.
 fn cases_hold(rt: &impl Abort, heap: Global, cases: &[Case]) -> Result<(), Fail> {
