@@ -13,6 +13,7 @@ use crate::pattern::TriplePattern;
 use crate::query::Query;
 use crate::tally::Tally;
 use crate::variables::VariableSet;
+use std::mem;
 
 impl Builder {
     /// Nothing has come in; `kept` is where parts are kept, if they are, and holds none yet.
@@ -52,8 +53,7 @@ impl Builder {
     pub(crate) fn end_required(&mut self)
         ensures { Follows required_ended self.old self.new }
     {
-        self.required = self.part;
-        self.part = VariableSet::empty();
+        self.required = mem::replace(&mut self.part, VariableSet::empty());
         keep(&mut self.kept, |parts| {
             parts.end_required();
             Ok(())
@@ -76,7 +76,7 @@ impl Builder {
         ensures { Follows alternative_ended self.old self.new }
     {
         let apart = self.in_two_blocks.is_subset(&self.required);
-        self.shared = self.shared || !apart;
+        self.shared |= !apart;
         self.required = VariableSet::empty();
         self.in_blocks = VariableSet::empty();
         self.in_two_blocks = VariableSet::empty();

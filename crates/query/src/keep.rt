@@ -102,9 +102,9 @@ pub(crate) fn keep<F: FnOnce(&mut Kept) -> Result<(), AllocError>>(kept: &mut Op
         → OnOk r (draft_of k' ≡ next (draft_of k)))
         → (d : Draft) → Keeps kept.old d → Keeps kept.new (next d) }
 {
-    if let Some(parts) = kept {
-        if step(parts).is_err() {
-            *kept = None;
-        }
+    if let Some(parts) = kept
+        && step(parts).is_err()
+    {
+        *kept = None;
     }
 }

@@ -9,7 +9,7 @@ ghost use Rattle.query.specs.Writes.{Fits, Puts};
 use crate::kind::Kind;
 use crate::place::Place;
 
-// Kept as a buffer with a place: `varint`, whose functions are published, writes at a place of a buffer.
+// Kept as a buffer with a place: once its front is cut off, what all of it holds is proved by hand only.
 /// A buffer that is written, and the place that comes next.
 #[derive(Drop)]
 pub(crate) struct Writer<'a> {
@@ -40,7 +40,7 @@ impl Coded for u32 {
     fn put(&self, writer: &mut Writer<'_>) {
         match varint::write::write(*self, writer.out, writer.at) {
             Ok(length) => writer.at += length,
-            Err(_) => unreachable(),
+            Err(_) => unreachable!(),
         }
     }
 }

@@ -10,7 +10,7 @@ pub(crate) const VARIABLES: usize = MOST_VARIABLE as usize + 1;
 /// A set of variables: which of them are members.
 #[derive(Clone, Copy)]
 pub(crate) struct VariableSet {
-    // Kept as flags: one for each variable, which need no law about bits.
+    // Kept as flags: checking allocates nothing, and flags need no law about bits.
     pub(crate) members: [bool; VARIABLES],
     ghost full: { length members ≡ variables },
 }

@@ -14,15 +14,11 @@ pub fn read(bytes: &[u8], at: usize) -> Result<Number, ReadError>
     ensures { result ≡ answer (decode (drop at bytes.now)) }
 {
     let rest = bytes.get(at..).unwrap_or(&[]);
-    let Some(number) = first_number(rest) else {
-        return Err(ReadError::EndsEarly);
-    };
+    let number = first_number(rest).ok_or(ReadError::EndsEarly)?;
     if number.len() > MOST_BYTES || is_padded(number) {
         return Err(ReadError::Malformed);
     }
-    let Ok(value) = u32::try_from(value_of(number)) else {
-        return Err(ReadError::Malformed);
-    };
+    let value = u32::try_from(value_of(number)).map_err(|_| ReadError::Malformed)?;
     Ok(Number {
         value,
         length: number.len(),

@@ -1,4 +1,4 @@
-use Rattle.std.proofs.Common.{◌≡◌, not, ◌||◌, sym, refl, ap, ◌∙◌, rules}
+use Rattle.std.proofs.Common.{not, ◌||◌, sym, refl, ap, ◌∙◌, rules}
 use Rattle.query.specs.Drafts.{alternative_ended}
 use Rattle.std.specs.List.{list_any}
 use Rattle.query.specs.Lawful.{shares}
@@ -13,13 +13,12 @@ returns c = record {
       let b = c.args.self.now in
       let apart = c.is_subset-apart.result in
       let g : Group = record { required = d.required; blocks = d.blocks; filter = d.nodes } in
-      let either : c.if-self.self ≡ (b.shared || not apart) = search rules in
       record {
         part = h.part;
         required = c.empty-self.ensures;
         once = c.empty-self-2.ensures;
         twice = c.empty-self-3.ensures;
-        shared = either ∙ ap (λ x. x || not apart) h.shared
+        shared = ap (λ x. x || not apart) h.shared
             ∙ ap (λ x. list_any shares d.done || x)
             (shares_found b.required b.in_two_blocks g h.required h.twice apart c.is_subset-apart.ensures)
             ∙ sym (some_push shares d.done g);

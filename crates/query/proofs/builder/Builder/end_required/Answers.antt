@@ -5,8 +5,8 @@ use Rattle.query.proofs.builder.Builder.end_required.Goals as goal
 pub returns : goal.returns
 returns c = record {
   tracks = λ d h. record {
-    part = c.empty-self.ensures;
-    required = h.part;
+    part = rw c.replace-self.ensures.after c.empty.ensures;
+    required = rw c.replace-self.ensures.value h.part;
     once = h.once;
     twice = h.twice;
     shared = h.shared;
