@@ -76,7 +76,8 @@ returns-in_err-value c =
     let rest = rest_is c.args.bytes.now c.args.at _ _ c.unwrap_or-rest.result c.get.ensures.lookup refl
     c.unwrap_or-rest.ensures
     in let first = MatchOption-at_some _ _ _ c.in_ok-number.ensures.ok_part c.first_number.ensures
-    in let why = err_from_is_err_and c.from_residual-in_err-value.result c.from_residual-in_err-value.ensures.1
+    in let why = err_from_is_err_and c.from_residual-in_err-value.result
+    c.from_residual-in_err-value.ensures.1
     in let past = refused c.try_from.result _ _ c.in_err-value.ensures.cases
     in let large : largest < c.value_of.result = ⊎_elim
     (λ less. absurd (OkIff-at_err _ _ _ _ c.try_from.ensures past.1 less))
@@ -91,7 +92,8 @@ returns c =
     in let first = MatchOption-at_some _ _ _ c.in_ok-number.ensures.ok_part c.first_number.ensures
     in let number = c.in_ok-number.number.now
     in let fits = subst (λ r. OkIff r (c.value_of.result < 4294967296) c.value_of.result)
-    (stayed c.try_from.result c.in_ok-value.value _ _ c.in_ok-value.was c.map_err.ensures.cases) c.try_from.ensures
+    (stayed c.try_from.result c.in_ok-value.value _ _ c.in_ok-value.was c.map_err.ensures.cases)
+    c.try_from.ensures
     in let is = fits.1 ∙ c.value_of.ensures
     in answer_from _ _ (decoded c.in_ok-value.value (length number)) rest
     (shortest_first first (omega arith) (sym c.if-is_padded.ensures)
