@@ -107,7 +107,7 @@ impl fmt::Display for Numbered<'_> {
     fn fmt<W: Write>(&self, f: &mut Formatter<W>) -> fmt::Result {
         let last = self.0.len().saturating_sub(1);
         write!(f, "(n{last}) WHERE ")?;
-        // Kept in the loop: after `split_first` the number and its node would be written at two places.
+        // Kept as a test of `i`: with `split_first`, what is written for an item would stand at two places.
         for (i, node) in self.0.iter().enumerate() {
             let node = Named(*node);
             f.write_str(if i == 0 { "" } else { ", " })?;

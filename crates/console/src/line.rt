@@ -8,7 +8,7 @@ const SPACE: u8 = b' ';
 /// What a remark begins with.
 const REMARK: u8 = b'#';
 
-// Kept as published functions, `trim` and `trim_start`: they say the library's trims in this crate's words.
+// Kept as functions, `trim` and `trim_start`: they say the library's trims in the words of `specs/`, once.
 /// The text without the white space at its ends.
 pub fn trim(text: &[u8]) -> &[u8]
     ensures { result.now ≡ trimmed text.now }

@@ -28,7 +28,7 @@ impl fmt::Display for Listing<'_> {
                 write!(f, "{group}")?
             }
             several => {
-                // Kept in the loop: after `split_first` a group in its braces would be written at two places.
+                // Kept as a test of `i`: with `split_first`, what a group writes would stand at two places.
                 for (i, parts) in several.iter().enumerate() {
                     let indent = INNER;
                     let group = Group { parts, indent };

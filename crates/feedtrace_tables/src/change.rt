@@ -8,7 +8,7 @@ use crate::session::Session;
 use triples::triple::Triple;
 
 impl Session {
-    // Kept as two: one function with the change as a closure, and a contract over any such, is no shorter.
+    // Kept as two, with `lay_withdrawn`: one function with the change as a closure is no shorter.
     // Kept as a taking and a putting back: layers take the store by value, and it comes back where they fail.
     // Kept as two numbers, as a layer takes them: they are tested only there.
     /// Puts an inverse layer over the current store.

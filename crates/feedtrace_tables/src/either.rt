@@ -18,7 +18,7 @@ pub(crate) enum Either<A, B> {
     Right(B),
 }
 
-// Kept written out: each method is another call, which one closure for both kinds could not be.
+// Kept written out: a closure takes one type, so none could call the method of both `A` and `B`.
 impl<A: Store, B: Store> Store for Either<A, B> {
     ghost meaning = { either_of A.Store.meaning B.Store.meaning };
 

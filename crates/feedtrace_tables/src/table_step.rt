@@ -36,7 +36,7 @@ impl Session {
         }
     }
 
-    // Kept as a second test, as in `finish`: taken in `answer`, it would be put back at each line but `end`.
+    // Kept as a second test, as in `finish`: a table taken in `answer` would go back at each line but `end`.
     /// Reads a line into the table that is being read.
     fn read_line(&mut self, text: &[u8])
         ensures { ReadInto text.now self.old self.new }

@@ -3,8 +3,8 @@ use triples::position::Position;
 use triples::selector::Selector;
 use triples::triple::Triple;
 
-/// A task about stores and catalogues.
 // Kept as an enum: a line is read whole before its task is carried out, and its contract says what it asks.
+/// A task about stores and catalogues.
 #[derive(Clone, Copy)]
 pub enum Task {
     /// Begins a row store of that top.

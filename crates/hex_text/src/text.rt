@@ -15,7 +15,7 @@ impl fmt::Display for HexText<'_> {
     ghost output = { λ t. Some (text_of t.bytes.now) };
 
     fn fmt<W: Write>(&self, f: &mut Formatter<W>) -> fmt::Result {
-        // Kept in the loop: after `split_first` the digits of a byte would be written at two places.
+        // Kept as a test of `i`: with `split_first`, what is written for an item would stand at two places.
         for (i, &byte) in self.bytes.iter().enumerate() {
             let space = if i == 0 { "" } else { " " };
             write!(f, "{space}{byte:02X}")?;

@@ -17,6 +17,7 @@ impl<S: Store> Inverse<S> {
         ensures { Inverted S.Store.meaning below property inverse result }
     {
         let top = below.top();
+        // Kept in place: with `accepted`, the facts that a `Turn` stands on would be behind a result.
         if is_term(top, property) && is_term(top, inverse) {
             Ok(Inverse {
                 below,

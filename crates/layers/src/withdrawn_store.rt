@@ -30,7 +30,7 @@ impl<S: Store> Store for Withdrawn<S> {
     /// Asks the store below again behind each number of which all triples are withdrawn.
     fn leap(&mut self, position: Position, selector: Selector, bound: u32) -> Option<u32> {
         let mut from = bound;
-        // Kept as a loop: each turn seeks in the whole layer, which an iterator would hold borrowed.
+        // Kept as a loop: each round seeks in the whole layer, which an iterator would hold borrowed.
         // Invariant: no number between the bound and this one is an answer.
         while let Some(number) = self.below.leap(position, selector, from) {
             if self.seek(selector.with(position, number), ORIGIN).is_some() {

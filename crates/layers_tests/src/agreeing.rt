@@ -20,7 +20,7 @@ fn each_three<F: FnMut((u32, u32, u32)) -> Result<(), Fail>>(mut ask: F) -> Resu
     Ok(())
 }
 
-// Kept as two arguments: a struct of both stores would hold two `&mut`, under a lifetime, for two functions.
+// Kept as two arguments: a struct would hold two `&mut` under a lifetime, for three short functions.
 /// Fails under the name, unless both find the same triple, from every start.
 fn seeks_agree<A: Store, B: Store>(
     name: &str,
@@ -38,6 +38,7 @@ fn seeks_agree<A: Store, B: Store>(
     })
 }
 
+// Kept beside its twin in `triples_tests`: that one asks a plain list, and this a second store.
 /// Whether both leap to the same number, at every position and from every bound.
 fn leaps_agree<A: Store, B: Store>(one: &mut A, other: &mut B, selector: Selector) -> bool {
     [Position::Subject, Position::Property, Position::Object]
@@ -49,7 +50,7 @@ fn leaps_agree<A: Store, B: Store>(one: &mut A, other: &mut B, selector: Selecto
         })
 }
 
-// Kept beside the loops of `triples_tests`: those ask a plain list, which must not be a store itself.
+// Kept beside `agrees` of `triples_tests`: that one compares with a plain list, which is no store.
 /// Fails under the name, unless both answer the same for every selector and have the same top.
 pub(crate) fn agree<A: Store, B: Store>(
     name: &str,

@@ -25,7 +25,7 @@ impl VariableSet {
     {
         if let Place::Variable(v) = place {
             let v = v as usize;
-            // Kept by index: behind a write through `get_mut` a proof knows nothing of the array.
+            // Kept by index: after a write through `get_mut` a proof knows nothing of the array.
             if v < VARIABLES {
                 self.members[v] = true;
             }

@@ -50,7 +50,7 @@ impl Query {
 }
 
 impl Alternative {
-    // Kept as two: each sums another field, and one for both would take a closure with a premise for each.
+    // Kept as two, with `nodes`: the fields differ, and a closure for both would need a premise for each.
     /// How many triples the alternative has, with those of its blocks.
     fn triples(&self) -> usize
         requires { triples_in (group_of self.now) ≤ most_in_all }

@@ -29,7 +29,7 @@ impl Place {
         }
     }
 
-    // Kept as an option, as `char::from_u32` is: a code has no place for one reason only.
+    // Kept as an option, as `char::from_u32` is: all codes without a place are refused alike.
     /// The lawful place that has the code.
     pub(crate) fn from_code(code: u32) -> Option<Place>
         ensures { result ≡ place_from code }

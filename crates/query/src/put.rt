@@ -9,7 +9,7 @@ ghost use Rattle.query.specs.Writes.{Fits, Puts};
 use crate::kind::Kind;
 use crate::place::Place;
 
-// Kept as a buffer with a place: once its front is cut off, what all of it holds is proved by hand only.
+// Kept as a buffer with a place: of a rest that one call cuts off and hands on, the proof didn't close.
 /// A buffer that is written, and the place that comes next.
 #[derive(Drop)]
 pub(crate) struct Writer<'a> {

@@ -30,7 +30,7 @@ pub fn selector_of(entries: (u32, u32, u32)) -> Selector
     triple_of(entries).into()
 }
 
-// Kept as a function: it is public, and a public function stays; the `From` it calls is that of `refusal`.
+// Kept as a function: its many callers would each have to say with `into` which pair they want.
 /// The published number of the refusal, and its place.
 pub fn said(rejection: Rejection) -> (u32, usize)
     ensures { result ≡ (published rejection.refusal, rejection.place) }

@@ -33,7 +33,7 @@ impl PropertyStore {
         }
     }
 
-    // Kept as a clause of three: a type of places would hold the store, and each of the three makes one call.
+    // Kept as a clause of three functions: a type for a place in the directory would have to hold the store.
     /// The pairs of entry `i`, under its property.
     fn run(&self, i: usize) -> Run<'_, Pair>
         requires { i < vec_len self.now.directory }
@@ -47,7 +47,7 @@ impl PropertyStore {
         }
     }
 
-    // Kept as two: each makes another call, and written into the closures of `fold` their proofs don't close.
+    // Kept as two, with `leap_entry`: their calls differ, and in closures of `fold` the proofs don't close.
     /// The earlier of `least` and the least triple of entry `i` that matches the selector but for its
     /// property and is not below the start. Within an entry the property is known, so its pairs are sought
     /// by subject and object.

@@ -15,7 +15,7 @@ impl RowStore {
     fn run(&self) -> Run<'_, Triple>
         ensures { result.items.now ≡ self.now.rows.items }
     {
-        // Kept as `ANY`: an `Option` a pair would have to unwrap, and a type for each element is no shorter.
+        // Kept as `ANY`: pairs would have to unwrap an `Option`, and one type for each element is no shorter.
         Run {
             items: &self.rows,
             property: ANY,

@@ -8,8 +8,8 @@ use crate::triple::{ORIGIN, Triple};
 /// The entry of a selector that every number matches.
 pub const ANY: u32 = 0;
 
-/// For each position the number that a triple must have there, or 0 for any.
 // Kept as numbers with 0 for any: this is the published form of a selector.
+/// For each position the number that a triple must have there, or 0 for any.
 #[derive(Clone, Copy, Debug, PartialEq, Eq)]
 pub struct Selector {
     pub subject: u32,

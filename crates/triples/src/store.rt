@@ -27,7 +27,7 @@ fn first_term(bound: u32) -> u32
     bound.max(FIRST_TERM)
 }
 
-// Kept in each call, clause and arguments: the calls are published, and no invariant relates two times.
+// Kept as arguments and clauses: the calls are published, and an invariant sees one time only.
 /// A top and a set of triples over the terms from 1 to the top. Everything above is proved against this
 /// meaning alone, for each kind of store. No call refuses anything, and each leaves the meaning as it is; a
 /// kind of store may move things about inside itself when asked, so the calls take `&mut self`.

@@ -82,7 +82,7 @@ impl<'a> Table<'a> {
         ensures { MatchOption result (SectionsOrdered self.now.directory.now self.now.pairs.now)
             (Fallen self.now.directory.now self.now.pairs.now) }
     {
-        // Kept as a loop: with `find_map` the answer stays open: the library has no law of it over lists.
+        // Kept as a loop: std has lemmas on `find`, and none on `find_map`, whose proof didn't close.
         for (i, entry) in self.directory.iter().enumerate() {
             if let Some(place) = fall(self.pairs_of(i)) {
                 return Some(entry.first as usize + place);

@@ -1,4 +1,4 @@
-//! Seek and leap of each kind of store, against a loop over the whole list and against a table.
+//! Seek and leap of each kind of store, against the whole list, gone over plainly, and against a table.
 use crate::bare::Bare;
 use crate::plain::{least, smallest};
 use std::test::Fail;
@@ -100,7 +100,7 @@ fn each_three<F: FnMut((u32, u32, u32)) -> Result<(), Fail>>(mut ask: F) -> Resu
     Ok(())
 }
 
-/// Fails, unless seek answers as the loop does, from every start.
+/// Fails, unless seek answers as the plain list does, from every start.
 fn seeks_agree<S: Store>(store: &mut S, selector: (u32, u32, u32)) -> Result<(), Fail> {
     each_three(|start| {
         let found = store.seek(selector_of(selector), triple_of(start));
@@ -112,7 +112,8 @@ fn seeks_agree<S: Store>(store: &mut S, selector: (u32, u32, u32)) -> Result<(),
     })
 }
 
-/// Whether leap answers as the loop does, at every position and from every bound.
+// Kept beside its twin in `layers_tests`: that one asks a second store, and this a plain list.
+/// Whether leap answers as the plain list does, at every position and from every bound.
 fn leaps_agree<S: Store>(store: &mut S, selector: (u32, u32, u32)) -> bool {
     [Position::Subject, Position::Property, Position::Object]
         .into_iter()
@@ -124,7 +125,7 @@ fn leaps_agree<S: Store>(store: &mut S, selector: (u32, u32, u32)) -> bool {
         })
 }
 
-/// Fails, unless seek and leap answer as the loops do for every selector, and the top is 5.
+/// Fails, unless seek and leap answer as the plain list does for every selector, and the top is 5.
 fn agrees<S: Store>(store: &mut S) -> Result<(), Fail> {
     each_three(|selector| {
         seeks_agree(store, selector)?;
