@@ -20,7 +20,7 @@ COUNT = 200
 LAST = 4294967295
 POSITIONS = ("subject", "property", "object")
 HERE = os.path.dirname(os.path.abspath(__file__))
-CONSOLE = os.path.join(HERE, "..", "..", "crates", "feedtrace_tables")
+CONSOLE = os.path.join(HERE, "..", "..", "crates", "feedtrace")
 
 
 def matches(selector, triple):

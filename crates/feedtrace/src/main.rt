@@ -1,10 +1,33 @@
-//! The console of coded queries: a command a line, and an answer to each.
+//! The console of the trace engine: a command a line, and an answer to each.
 #![tactic(auto)]
 
-use console::session::Session;
+mod answer;
+mod ask;
+mod carry;
+mod change;
+mod current;
+mod either;
+mod expected;
+mod failure;
+mod field;
+mod grammar;
+mod lay;
+mod load;
+mod loading;
+mod number;
+mod outcome;
+mod read_line;
+mod session;
+mod table_line;
+mod table_step;
+mod task;
+mod told;
+mod verb;
+
+use answer::Answer;
+use session::Session;
 use std::io::{BufRead, BufReader};
 
-// Kept beside the other console's: one for both would need a trait of sessions, for a loop of a few lines.
 /// Answers every line of standard input.
 fn run(rt: &HostRuntime) -> anyhow::Result<()> {
     let heap = rt.alloc();
@@ -12,9 +35,13 @@ fn run(rt: &HostRuntime) -> anyhow::Result<()> {
     for line in BufReader::new(heap, rt.stdin())?.split(heap, b'\n') {
         let line = line?;
         match session.answer(heap, line.as_slice()) {
-            Ok(Some(answer)) => rt.print(session.reply(&answer))?,
+            Ok(Some(Answer::Query(answer))) => rt.print(session.queries.reply(&answer))?,
+            Ok(Some(Answer::Task(outcome))) => rt.println(outcome)?,
             Ok(None) => {}
             Err(failure) => rt.println(failure)?,
+        }
+        if let Some(lines) = session.progress() {
+            eprintln!(rt; "{lines} lines of the table read")?;
         }
     }
     Ok(())

@@ -1,0 +1,35 @@
+-- Laws of tasks: a store that was asked and means what it meant, and outcomes. Assumes nothing.
+use Rattle.std.proofs.Common.{◌≡◌, Some, Ok, Err, Option, sym, refl, ap, ◌∙◌, subst, MatchOption}
+use Rattle.std.specs.Prelude.{MatchResult}
+use Rattle.std.specs.Option.{option_map}
+use Rattle.triples.specs.Meaning.{Meaning}
+use Rattle.feedtrace.specs.Does.{Comes}
+use Rattle.feedtrace.specs.Failures.{Carried, Done, lacks}
+use Rattle.feedtrace.specs.declared.expected.Expected.TheVariants as expected
+use Rattle.feedtrace.specs.Layerings.{Layered, layered_meaning}
+use Rattle.feedtrace.specs.declared.failure.Failure.{Failure}
+use Rattle.feedtrace.specs.declared.outcome.Outcome.{Outcome}
+use Rattle.feedtrace.specs.declared.session.Session.{Session}
+use Rattle.feedtrace.specs.Tasks.{Asked}
+
+pub asked_some : (P : Meaning → Carried → Type 0) (s : Session) (l m : Layered) (r : Carried)
+    → s.store ≡ Some l
+    → layered_meaning m ≡ layered_meaning l → P (layered_meaning l) r
+    → Asked P s r (record { queries = s.queries; store = Some m; book = s.book; loading = s.loading })
+asked_some P s l m r is same p = (
+  record {
+    queries = refl;
+    store = ap Some same ∙ sym (ap (option_map layered_meaning) is);
+    book = refl;
+    loading = refl;
+  },
+  subst (λ (o : Option Layered). MatchOption o (r ≡ lacks expected.Store) (λ l. P (layered_meaning l) r))
+      (sym is) p,
+)
+
+pub Comes-from_map : (P : Session → Carried → Session → Type 0) (s t : Session) (r : Carried) (m : Done)
+    (A : Outcome → Type 0)
+    (B : Failure → Type 0) → ((o : Outcome) → A o → m ≡ Ok (Some o)) → ((e : Failure) → B e → m ≡ Err e)
+    → MatchResult r A B → P s r t → Comes P s m t
+Comes-from_map P s t (Ok o) m A B has fails is p = rw (has o is) p
+Comes-from_map P s t (Err e) m A B has fails is p = rw (fails e is) p

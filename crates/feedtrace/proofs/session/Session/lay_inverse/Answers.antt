@@ -1,0 +1,10 @@
+use Rattle.std.proofs.Common.{sym, ◌∙◌}
+use Rattle.feedtrace.specs.Laying.{InverseOn}
+use Rattle.feedtrace.proofs.Laying.{changed_some}
+use Rattle.feedtrace.proofs.session.Session.lay_inverse.Goals as goal
+
+pub returns : goal.returns
+returns c =
+    changed_some (InverseOn c.args.property c.args.inverse) c.args.self.now c.in_ok-store.store
+    c.under_inverse-after.result.0 c.under_inverse-after.result.1
+    (sym c.take.ensures.value ∙ c.in_ok-store.ensures.ok_part) c.under_inverse-after.ensures

@@ -1,0 +1,93 @@
+-- The forms of tasks: what follows the word, and what is left behind it. Assumes nothing.
+--     T P Q N S O A B C     numbers from 0 to 4,294,967,295
+use Rattle.std.specs.Prelude.{ℕ, cond, List, Some, None, Ok, Err, codes, Option, Result, ◌==◌}
+use Rattle.std.specs.Str.{bytes_eq}
+use Rattle.triples.specs.declared.triple.Triple.{Triple}
+use Rattle.triples.specs.Order.{value_at}
+use Rattle.triples.specs.Selectors.{any, selector_of}
+use Rattle.console.specs.Words.{after_word, word}
+use Rattle.feedtrace.specs.declared.expected.Expected.{Expected}
+use Rattle.feedtrace.specs.declared.expected.Expected.TheVariants as expected
+use Rattle.feedtrace.specs.declared.task.Task.{Task}
+use Rattle.feedtrace.specs.declared.task.Task.TheVariants as task
+use Rattle.feedtrace.specs.declared.verb.Verb.{Verb}
+use Rattle.feedtrace.specs.declared.verb.Verb.TheVariants as verb
+use Rattle.feedtrace.specs.Fields.{◌>>=◌, first_as, first_from, first_number, first_position}
+use Rattle.feedtrace.specs.Fields.{first_triple, only}
+use Rattle.feedtrace.specs.Verbs.{verb_of}
+
+-- the catalogue that a word names
+abbrev pub catalogue_of : List ℕ → Option Task
+catalogue_of w =
+    cond (bytes_eq w (codes "inline")) (Some task.InlineCatalogue)
+    (cond (bytes_eq w (codes "listed")) (Some task.ListedCatalogue) None)
+
+-- inline, or listed
+abbrev pub catalogue_form : List ℕ → Option (Task × List ℕ)
+catalogue_form = first_as catalogue_of
+
+-- P Q
+abbrev pub inverse_form : List ℕ → Option (Task × List ℕ)
+inverse_form text = do
+  p ← first_number text
+  q ← first_number p.1
+  Some (task.Inverse p.0 q.0, q.1)
+
+-- A B C from S P O
+abbrev pub seek_form : List ℕ → Option (Task × List ℕ)
+seek_form text = do
+  wanted ← first_triple text
+  from ← first_from wanted.1
+  start ← first_triple from.1
+  Some (task.Seek (selector_of wanted.0) start.0, start.1)
+
+-- a position, A B C from N, with 0 at the position
+abbrev pub leap_form : List ℕ → Option (Task × List ℕ)
+leap_form text = do
+  place ← first_position text
+  wanted ← first_triple place.1
+  from ← first_from wanted.1
+  bound ← first_number from.1
+  cond (value_at place.0 wanted.0 == any)
+      (Some (task.Leap place.0 (selector_of wanted.0) bound.0, bound.1)) None
+
+-- N, as the number of a task
+abbrev pub number_form : (ℕ → Task) → List ℕ → Option (Task × List ℕ)
+number_form make text = first_number text >>= (λ n. Some (make n.0, n.1))
+
+-- S P O, as the triple of a task
+abbrev pub triple_form : (Triple → Task) → List ℕ → Option (Task × List ℕ)
+triple_form make text = first_triple text >>= (λ t. Some (make t.0, t.1))
+
+-- the task of a word with what follows it, and what is left
+abbrev pub task_fields : Verb → List ℕ → Option (Task × List ℕ)
+task_fields verb.RowStore text = number_form task.RowStore text
+task_fields verb.PropertyStore text = number_form task.PropertyStore text
+task_fields verb.Catalogue text = catalogue_form text
+task_fields verb.Inverse text = inverse_form text
+task_fields verb.Withdrawn text = Some (task.Withdrawn, text)
+task_fields verb.Withdraw text = triple_form task.Withdraw text
+task_fields verb.Restore text = triple_form task.Restore text
+task_fields verb.Seek text = seek_form text
+task_fields verb.Leap text = leap_form text
+task_fields verb.Lookup text = number_form task.Lookup text
+task_fields verb.Scan text = triple_form (λ t. task.Scan (selector_of t)) text
+task_fields verb.Trace text = number_form task.Trace text
+
+-- the task of a word with what follows it, if nothing is left
+abbrev pub task_form : Verb → List ℕ → Option Task
+task_form v text = only (task_fields v text)
+
+-- the task, or the command's form where there is none
+abbrev pub formed : Verb → Option Task → Result (Option Task) Expected
+formed v None = Err (expected.Form v)
+formed v (Some c) = Ok (Some c)
+
+-- what a first word with what follows it asks of tables and layers: nothing, a task, or the command's form
+abbrev pub asked_by : Option Verb → List ℕ → Result (Option Task) Expected
+asked_by None rest = Ok None
+asked_by (Some v) rest = formed v (task_form v rest)
+
+-- what a line without white space at its ends asks of tables and layers
+abbrev pub task_asked : List ℕ → Result (Option Task) Expected
+task_asked text = asked_by (verb_of (word text)) (after_word text)

@@ -1,0 +1,68 @@
+-- What tasks answer, and what they leave. Assumes nothing.
+--     Kept s t        t has the queries and the table of s, and means what s means
+--     Asked P s r t   the store of s was asked, P holds of its meaning and the answer r, and t is as s
+use Rattle.std.specs.Prelude.{◌≡◌, ℕ, ◌⊎◌, ℤ, Ok, vec_items, Option, Vec, MatchOption}
+use Rattle.std.specs.Option.{option_map}
+use Rattle.std.specs.declared.alloc.Global.{Global}
+use Rattle.triples.specs.declared.position.Position.{Position}
+use Rattle.triples.specs.declared.selector.Selector.{Selector}
+use Rattle.triples.specs.declared.triple.Triple as triples
+use Rattle.triples.specs.Meaning.{Meaning}
+use Rattle.triples.specs.Seeks.{Sought, Leapt}
+use Rattle.trace.specs.Scans.{Scanned}
+use Rattle.trace.specs.Steps.{Traced}
+use Rattle.catalogue.specs.Entries.{told}
+use Rattle.catalogue.specs.declared.kind.Kind.{Kind}
+use Rattle.feedtrace.specs.declared.expected.Expected.TheVariants as expected
+use Rattle.feedtrace.specs.declared.outcome.Outcome.{Outcome}
+use Rattle.feedtrace.specs.Failures.{Carried, lacks, memory}
+use Rattle.feedtrace.specs.declared.outcome.Outcome.TheVariants as outcome
+use Rattle.feedtrace.specs.declared.session.Session.{Session}
+use Rattle.feedtrace.specs.Books.{book_entries}
+use Rattle.feedtrace.specs.Layerings.{layered_meaning}
+
+-- what the current store means; none where there is none
+abbrev pub meaning_of : Session → Option Meaning
+meaning_of s = option_map layered_meaning s.store
+
+-- t has the queries and the table of s, and its store and catalogue mean what those of s mean
+pub record Kept (s t : Session) : Type 0 where
+  pub queries : t.queries ≡ s.queries
+  pub store : meaning_of t ≡ meaning_of s
+  pub book : book_entries t.book ≡ book_entries s.book
+  pub loading : t.loading ≡ s.loading
+
+-- the store of s was asked, and P holds of its meaning and the answer; or there is no store
+abbrev pub Asked : (Meaning → Carried → Type 0) → Session → Carried → Session → Type 0
+Asked P s r t =
+    Kept s t × MatchOption s.store (r ≡ lacks expected.Store) (λ l. P (layered_meaning l) r)
+
+-- the least triple that matches and is not below the start
+abbrev pub SeekAnswer : Selector → triples.Triple → Meaning → Carried → Type 0
+SeekAnswer selector start m r =
+    (o : Option triples.Triple) × ((r ≡ Ok (outcome.Found o)) × Sought m.has selector start o)
+
+-- the smallest number from the bound on at the position of a triple that matches
+abbrev pub LeapAnswer : Position → Selector → ℕ → Meaning → Carried → Type 0
+LeapAnswer position selector bound m r =
+    (o : Option ℕ) × ((r ≡ Ok (outcome.Number o)) × Leapt m.has position selector bound o)
+
+-- exactly the triples that match, ascending; or memory is wanting
+abbrev pub ScanAnswer : Selector → Meaning → Carried → Type 0
+ScanAnswer selector m r =
+    ((v : Vec triples.Triple Global)
+    × ((r ≡ Ok (outcome.Triples v)) × Scanned m.has selector (vec_items v)))
+    ⊎ (r ≡ lacks memory)
+
+-- exactly the terms that the term reaches, nearest first; or memory is wanting
+abbrev pub TraceAnswer : ℕ → Meaning → Carried → Type 0
+TraceAnswer term m r =
+    ((v : Vec ℕ Global) × ((r ≡ Ok (outcome.Terms v)) × Traced m.has term (vec_items v)))
+    ⊎ (r ≡ lacks memory)
+
+-- the entry of the number in the catalogue of s
+abbrev pub Looked : ℕ → Session → Outcome → Session → Type 0
+Looked number s r t =
+    Kept s t × ((k : Kind)
+    × ((v : ℤ) ×
+    ((r ≡ outcome.Entry k v) × ((k, v) ≡ told (book_entries s.book number)))))

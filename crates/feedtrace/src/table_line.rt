@@ -1,0 +1,85 @@
+//! The lines of a table.
+ghost use Rattle.std.specs.Prelude.{◌≡◌};
+ghost use Rattle.feedtrace.specs.TableLines.{Pushed, entry_line, pair_line, record_line, row_line};
+ghost use Rattle.feedtrace.specs.Drafts.{draft_of, Drafted, EntryTaken};
+
+use crate::expected::Expected;
+use crate::field::Fields;
+use crate::loading::Lists;
+use catalogue::record::Record;
+use triples::entry::DirectoryEntry;
+use triples::pair::Pair;
+use triples::property_store::PropertyTable;
+use triples::triple::Triple;
+
+// Kept as one function for each element: each reads other fields, and one over all would take closures.
+impl Fields<'_> {
+    /// A triple, if nothing follows it.
+    fn row(mut self) -> Option<Triple>
+        ensures { result ≡ row_line self.entry.rest.now }
+    {
+        let triple = self.triple()?;
+        self.end(triple)
+    }
+
+    /// A directory entry, if nothing follows it.
+    fn entry(mut self) -> Option<DirectoryEntry>
+        ensures { result ≡ entry_line self.entry.rest.now }
+    {
+        let property = self.number()?;
+        let first = self.number()?;
+        self.end(DirectoryEntry { property, first })
+    }
+
+    /// A pair, if nothing follows it.
+    fn pair(mut self) -> Option<Pair>
+        ensures { result ≡ pair_line self.entry.rest.now }
+    {
+        let subject = self.number()?;
+        let object = self.number()?;
+        self.end(Pair { subject, object })
+    }
+
+    /// A kind and a value with its sign, if nothing follows them.
+    fn record(mut self) -> Option<Record>
+        ensures { result ≡ record_line self.entry.rest.now }
+    {
+        let kind = self.number()?;
+        let value = self.signed()?;
+        self.end(Record { kind, value })
+    }
+}
+
+/// Puts the element behind the list; nothing is put where there is none, or where memory is wanting.
+fn push<T: Drop>(list: &mut Vec<T>, element: Option<T>) -> Result<(), Expected>
+    ensures { Pushed element list.old.items result list.new.items }
+{
+    list.push(element.ok_or(Expected::TableLines)?)?;
+    Ok(())
+}
+
+/// Takes a line of a property store: a directory entry or a pair.
+fn take_entry(table: &mut PropertyTable, text: &[u8]) -> Result<(), Expected>
+    ensures { EntryTaken text.now table.old result table.new }
+{
+    let mut fields = Fields { rest: text };
+    match fields.word() {
+        b"property" => push(&mut table.directory, fields.entry()),
+        b"pair" => push(&mut table.pairs, fields.pair()),
+        _ => Err(Expected::TableLines),
+    }
+}
+
+impl Lists {
+    /// Takes a line of the table: its element is put behind the list that it belongs to. Nothing is put where
+    /// the line has another form, or where memory is wanting.
+    pub(crate) fn take(&mut self, text: &[u8]) -> Result<(), Expected>
+        ensures { Drafted (draft_of self.old) text.now result (draft_of self.new) }
+    {
+        match self {
+            Lists::Rows(_, rows) => push(rows, Fields { rest: text }.row()),
+            Lists::Properties(_, table) => take_entry(table, text),
+            Lists::Records(records) => push(records, Fields { rest: text }.record()),
+        }
+    }
+}

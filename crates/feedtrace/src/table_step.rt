@@ -1,0 +1,66 @@
+//! The lines of a table in a session, and its end.
+ghost use Rattle.feedtrace.specs.Drafts.{pending_of};
+ghost use Rattle.feedtrace.specs.Lines.{Ended, Finished, ReadInto, TableLine};
+
+use crate::answer::Answer;
+use crate::failure::Failure;
+use crate::loading::Loading;
+use crate::outcome::Outcome;
+use crate::session::Session;
+use console::line::{is_absent, split_word};
+
+/// How many lines of a table there are between two remarks on how far it is.
+const REMARK_EVERY: u64 = 100_000;
+
+impl Session {
+    /// How many lines of the table are read, at each hundred thousandth; none elsewhere.
+    pub(crate) fn progress(&self) -> Option<u64> {
+        let lines = self.loading.as_ref()?.lines;
+        (lines > 0 && lines % REMARK_EVERY == 0).then_some(lines)
+    }
+
+    /// Answers a line of the table that is being read; nothing where it is only read.
+    pub(crate) fn table_line(&mut self, text: &[u8]) -> Result<Option<Answer>, Failure>
+        ensures { TableLine text.now self.old result self.new }
+    {
+        let (word, _) = split_word(text);
+        if is_absent(word) {
+            return Ok(None);
+        }
+        match text {
+            b"end" => self.finish(),
+            _ => {
+                self.read_line(text);
+                Ok(None)
+            }
+        }
+    }
+
+    // Kept as a second test, as in `finish`: a table taken in `answer` would go back at each line but `end`.
+    /// Reads a line into the table that is being read.
+    fn read_line(&mut self, text: &[u8])
+        ensures { ReadInto text.now self.old self.new }
+    {
+        if let Some(loading) = &mut self.loading {
+            loading.read(text);
+        }
+    }
+
+    /// Ends the table that is being read.
+    fn finish(&mut self) -> Result<Option<Answer>, Failure>
+        ensures { Finished self.old result self.new }
+    {
+        match self.loading.take() {
+            Some(loading) => Ok(Some(Answer::Task(self.end(loading)?))),
+            None => Ok(None),
+        }
+    }
+
+    /// The end of the table: it is loaded, or one of its lines was wrong.
+    fn end(&mut self, table: Loading) -> Result<Outcome, Failure>
+        ensures { Ended (pending_of table) self.old result self.new }
+    {
+        let Loading { lists, lines: _ } = table;
+        self.load(lists?)
+    }
+}
