@@ -1,3 +1,4 @@
 -- Read in this order.
+mod Keeping  -- what tables and layers keep
 mod Tasks  -- laws of tasks
 mod Laying  -- laws of changing a store

@@ -1,7 +1,6 @@
--- Laws of tasks: a store that was asked and means what it meant, and outcomes. Assumes nothing.
-use Rattle.std.proofs.Common.{◌≡◌, Some, Ok, Err, Option, sym, refl, ap, ◌∙◌, subst, MatchOption}
+-- Laws of tasks: a store that was asked and is as it was, and outcomes. Assumes nothing.
+use Rattle.std.proofs.Common.{◌≡◌, Some, Ok, Err, Option, sym, ap, ◌∙◌, subst, MatchOption}
 use Rattle.std.specs.Prelude.{MatchResult}
-use Rattle.std.specs.Option.{option_map}
 use Rattle.triples.specs.Meaning.{Meaning}
 use Rattle.feedtrace.specs.Does.{Comes}
 use Rattle.feedtrace.specs.Failures.{Carried, Done, lacks}
@@ -14,15 +13,11 @@ use Rattle.feedtrace.specs.Tasks.{Asked}
 
 pub asked_some : (P : Meaning → Carried → Type 0) (s : Session) (l m : Layered) (r : Carried)
     → s.store ≡ Some l
-    → layered_meaning m ≡ layered_meaning l → P (layered_meaning l) r
+    → m ≡ l → P (layered_meaning l) r
     → Asked P s r (record { queries = s.queries; store = Some m; book = s.book; loading = s.loading })
 asked_some P s l m r is same p = (
-  record {
-    queries = refl;
-    store = ap Some same ∙ sym (ap (option_map layered_meaning) is);
-    book = refl;
-    loading = refl;
-  },
+  ap (λ (o : Option Layered). record { queries = s.queries; store = o; book = s.book; loading = s.loading })
+      (ap Some same ∙ sym is),
   subst (λ (o : Option Layered). MatchOption o (r ≡ lacks expected.Store) (λ l. P (layered_meaning l) r))
       (sym is) p,
 )

@@ -36,16 +36,16 @@ Changed P s r t =
 abbrev pub TermsOf : Meaning → ℕ → ℕ → Type 0
 TermsOf m p q = (term m.top p && term m.top q) ≡ true
 
--- an inverse layer was laid over the table, which means it with the inverse; or the properties are outside,
--- and a table of the same meaning is there again
+-- an inverse layer lies over the table, and means it with the inverse; or the properties are outside, and the
+-- table is there as it was
 abbrev pub InverseOver : ℕ → ℕ → Table → Carried → Layered → Type 0
 InverseOver p q table r after =
     (TermsOf (table_meaning table) p q × (r ≡ Ok (outcome.Inverse p q))
-    × ((layer : inverses.Inverse Table) × ((after ≡ Left (Right layer))
+    × ((layer : inverses.Inverse Table) × ((after ≡ Left (Right layer)) × (layer.below ≡ table)
     × (inverse_meaning layer ≡ with_inverse p q (table_meaning table)))))
     ⊎ ((TermsOf (table_meaning table) p q → ⊥)
     × (r ≡ refused (record { refusal = PropertyOutside; place = 0 }))
-    × ((back : Table) × ((after ≡ bare back) × (table_meaning back ≡ table_meaning table))))
+    × (after ≡ bare table))
 
 -- an inverse layer goes over a table alone
 abbrev pub InverseOn : ℕ → ℕ → Layered → Carried → Layered → Type 0
@@ -63,13 +63,13 @@ WithdrawnOn (Left below) r after =
 WithdrawnOn (Right layer) r after = (r ≡ lacks expected.Layering) × (after ≡ Right layer)
 
 -- the layer was asked to change what is withdrawn: P holds of the answer and of what is withdrawn then, which
--- is counted; and what is below means what it meant
+-- is counted; and what is below is as it was
 abbrev pub Counted : (Result (Unit {0}) Rejection → List Triple → Type 0) → layers.Withdrawn Inverted
     → Carried
     → layers.Withdrawn Inverted
     → Type 0
 Counted P a r b =
-    (inverted_meaning b.below ≡ inverted_meaning a.below)
+    (b.below ≡ a.below)
     × (((r ≡ Ok (outcome.Withdrawn (length (members b.gone)))) × P (Ok tt) (members b.gone))
     ⊎ ((e : Rejection) × ((r ≡ refused e) × P (Err e) (members b.gone))))
 

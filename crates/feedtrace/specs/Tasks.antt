@@ -1,8 +1,6 @@
 -- What tasks answer, and what they leave. Assumes nothing.
---     Kept s t        t has the queries and the table of s, and means what s means
---     Asked P s r t   the store of s was asked, P holds of its meaning and the answer r, and t is as s
+--     Asked P s r t   the store of s was asked, P holds of its meaning and the answer r, and t is s
 use Rattle.std.specs.Prelude.{◌≡◌, ℕ, ◌⊎◌, ℤ, Ok, vec_items, Option, Vec, MatchOption}
-use Rattle.std.specs.Option.{option_map}
 use Rattle.std.specs.declared.alloc.Global.{Global}
 use Rattle.triples.specs.declared.position.Position.{Position}
 use Rattle.triples.specs.declared.selector.Selector.{Selector}
@@ -21,21 +19,11 @@ use Rattle.feedtrace.specs.declared.session.Session.{Session}
 use Rattle.feedtrace.specs.Books.{book_entries}
 use Rattle.feedtrace.specs.Layerings.{layered_meaning}
 
--- what the current store means; none where there is none
-abbrev pub meaning_of : Session → Option Meaning
-meaning_of s = option_map layered_meaning s.store
-
--- t has the queries and the table of s, and its store and catalogue mean what those of s mean
-pub record Kept (s t : Session) : Type 0 where
-  pub queries : t.queries ≡ s.queries
-  pub store : meaning_of t ≡ meaning_of s
-  pub book : book_entries t.book ≡ book_entries s.book
-  pub loading : t.loading ≡ s.loading
-
--- the store of s was asked, and P holds of its meaning and the answer; or there is no store
+-- the store of s was asked, and P holds of its meaning and the answer; or there is no store. All is as it was:
+-- the table, what lies over it, and what is withdrawn
 abbrev pub Asked : (Meaning → Carried → Type 0) → Session → Carried → Session → Type 0
 Asked P s r t =
-    Kept s t × MatchOption s.store (r ≡ lacks expected.Store) (λ l. P (layered_meaning l) r)
+    (t ≡ s) × MatchOption s.store (r ≡ lacks expected.Store) (λ l. P (layered_meaning l) r)
 
 -- the least triple that matches and is not below the start
 abbrev pub SeekAnswer : Selector → triples.Triple → Meaning → Carried → Type 0
@@ -60,9 +48,16 @@ TraceAnswer term m r =
     ((v : Vec ℕ Global) × ((r ≡ Ok (outcome.Terms v)) × Traced m.has term (vec_items v)))
     ⊎ (r ≡ lacks memory)
 
+-- t has the queries, the store and the table of s, and a catalogue that says what that of s says
+pub record SaysTheSame (s t : Session) : Type 0 where
+  pub queries : t.queries ≡ s.queries
+  pub store : t.store ≡ s.store
+  pub book : book_entries t.book ≡ book_entries s.book
+  pub loading : t.loading ≡ s.loading
+
 -- the entry of the number in the catalogue of s
 abbrev pub Looked : ℕ → Session → Outcome → Session → Type 0
 Looked number s r t =
-    Kept s t × ((k : Kind)
+    SaysTheSame s t × ((k : Kind)
     × ((v : ℤ) ×
     ((r ≡ outcome.Entry k v) × ((k, v) ≡ told (book_entries s.book number)))))

@@ -1,5 +1,5 @@
 //! A store or a catalogue of either of two kinds, as one kind.
-ghost use Rattle.feedtrace.specs.Eithers.{either_of, either_keeps};
+ghost use Rattle.feedtrace.specs.Eithers.{either_of, KeptOf, either_keeps, either_kept};
 ghost use Rattle.catalogue.specs.Entries.{Proper};
 ghost use Rattle.triples.specs.Meaning.{Sound};
 
@@ -23,6 +23,10 @@ impl<A: Store, B: Store> Store for Either<A, B> {
     ghost meaning = { either_of A.Store.meaning B.Store.meaning };
 
     ghost sound = { either_keeps Sound A.Store.meaning B.Store.meaning A.Store.sound B.Store.sound };
+
+    ghost Kept = { KeptOf A.Store.Kept B.Store.Kept };
+
+    ghost kept = { either_kept A.Store.kept B.Store.kept };
 
     fn top(&mut self) -> u32 {
         match self {

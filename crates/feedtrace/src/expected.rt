@@ -10,7 +10,8 @@ use std::fmt;
 use std::fmt::{Formatter, Write};
 
 /// The words that begin a command.
-const COMMANDS: &str = "a command: row-store, property-store, catalogue, inverse, withdrawn, withdraw, restore, \
+const COMMANDS: &str =
+    "a command: row-store, property-store, catalogue, inverse, withdrawn, withdraw, restore, \
     seek, leap, lookup, scan, trace, query, write or show";
 
 /// What was expected, of the line or of the session.

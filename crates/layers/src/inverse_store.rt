@@ -1,6 +1,8 @@
 //! The store below with the turned triples, as a store.
 ghost use Rattle.layers.specs.Inverses.{with_turned};
 ghost use Rattle.layers.specs.Soundness.{sound_with_turned};
+ghost use Rattle.layers.specs.declared.turn.Turn.{Turn};
+ghost use Rattle.triples.specs.Meaning.{Meaning};
 
 use crate::inverse::Inverse;
 use triples::position::Position;
@@ -15,6 +17,10 @@ impl<S: Store> Store for Inverse<S> {
 
     ghost sound = { λ s. sound_with_turned s.turn.property s.turn.inverse
         (S.Store.meaning s.below) s.turn.named (S.Store.sound s.below) };
+
+    ghost Kept = { Meaning × S.Store.Kept × Turn };
+
+    ghost kept = { λ s. (S.Store.meaning s.below, S.Store.kept s.below, s.turn) };
 
     fn top(&mut self) -> u32 {
         self.below.top()

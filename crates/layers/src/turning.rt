@@ -51,6 +51,7 @@ impl Turn {
         ensures answer { Leapt (turned self.property self.inverse (S.Store.meaning below.old)) position
             selector bound result }
         ensures same { S.Store.meaning below.new ≡ S.Store.meaning below.old }
+        ensures kept { S.Store.kept below.new ≡ S.Store.kept below.old }
     {
         let top = below.top();
         let swapped = self.swapped(selector, top)?;
@@ -76,6 +77,7 @@ impl Turn {
         ensures answer { Sought (turned self.property self.inverse (S.Store.meaning below.old)) selector
             start result }
         ensures same { S.Store.meaning below.new ≡ S.Store.meaning below.old }
+        ensures kept { S.Store.kept below.new ≡ S.Store.kept below.old }
     {
         let bound = self.object_from(selector.subject, start)?;
         let top = below.top();
@@ -99,6 +101,7 @@ impl Turn {
         ensures answer { Sought (turned self.property self.inverse (S.Store.meaning below.old)) selector
             start result }
         ensures same { S.Store.meaning below.new ≡ S.Store.meaning below.old }
+        ensures kept { S.Store.kept below.new ≡ S.Store.kept below.old }
     {
         let subject = self.leap(below, Position::Subject, selector, start.subject)?;
         let of_subject = selector.with(Position::Subject, subject);

@@ -23,6 +23,7 @@ const EVERY: Selector = Selector {
 fn is_held<S: Store>(store: &mut S, triple: Triple) -> bool
     ensures answer { result ≡ (S.Store.meaning store.old).has triple }
     ensures same { S.Store.meaning store.new ≡ S.Store.meaning store.old }
+    ensures kept { S.Store.kept store.new ≡ S.Store.kept store.old }
 {
     store.seek(EVERY, triple) == Some(triple)
 }
@@ -62,6 +63,7 @@ impl<S: Store> Withdrawn<S> {
         ensures answer { Withdraws (S.Store.meaning self.old.below)
             (members self.old.gone) triple result (members self.new.gone) }
         ensures same { S.Store.meaning self.new.below ≡ S.Store.meaning self.old.below }
+        ensures kept { S.Store.kept self.new.below ≡ S.Store.kept self.old.below }
     {
         if self.gone.has(triple) {
             return Err(Rejection::unplaced(Refusal::AlreadyWithdrawn));

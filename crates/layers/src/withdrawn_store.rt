@@ -2,6 +2,8 @@
 ghost use Rattle.layers.specs.Members.{members};
 ghost use Rattle.layers.specs.Soundness.{sound_without};
 ghost use Rattle.layers.specs.Withdrawals.{without};
+ghost use Rattle.layers.specs.declared.triple_set.TripleSet.{TripleSet};
+ghost use Rattle.triples.specs.Meaning.{Meaning};
 
 use crate::withdrawn::Withdrawn;
 use triples::matches::Matches;
@@ -16,6 +18,10 @@ impl<S: Store> Store for Withdrawn<S> {
 
     ghost sound = { λ s. sound_without (S.Store.meaning s.below) (members s.gone)
         (S.Store.sound s.below) };
+
+    ghost Kept = { Meaning × S.Store.Kept × TripleSet };
+
+    ghost kept = { λ s. (S.Store.meaning s.below, S.Store.kept s.below, s.gone) };
 
     fn top(&mut self) -> u32 {
         self.below.top()

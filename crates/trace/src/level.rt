@@ -19,6 +19,7 @@ pub(crate) fn level<S: Store>(
     ensures answer { IfOk result (λ v. Level (S.Store.meaning store.old).has front.now seen.old seen.new
         v.items) }
     ensures same { S.Store.meaning store.new ≡ S.Store.meaning store.old }
+    ensures kept { S.Store.kept store.new ≡ S.Store.kept store.old }
 {
     let mut found = Vec::new(heap);
     for term in front {

@@ -18,6 +18,7 @@ pub fn scan<S: Store>(
 ) -> Result<Vec<Triple>, AllocError>
     ensures answer { IfOk result (λ v. Scanned (S.Store.meaning store.old).has selector v.items) }
     ensures same { S.Store.meaning store.new ≡ S.Store.meaning store.old }
+    ensures kept { S.Store.kept store.new ≡ S.Store.kept store.old }
 {
     // Kept as a loop: where memory is wanting, `collect` tells nothing of the store, whose meaning stays.
     let mut found = Vec::new(heap);

@@ -14,6 +14,7 @@ use triples::store::Store;
 pub fn trace<S: Store>(heap: Global, store: &mut S, term: u32) -> Result<Vec<u32>, AllocError>
     ensures answer { IfOk result (λ v. Traced (S.Store.meaning store.old).has term v.items) }
     ensures same { S.Store.meaning store.new ≡ S.Store.meaning store.old }
+    ensures kept { S.Store.kept store.new ≡ S.Store.kept store.old }
 {
     let places = store.top() as usize + 1;
     let mut seen = vec![in heap; false; places]?;

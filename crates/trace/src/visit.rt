@@ -21,6 +21,7 @@ pub(crate) fn visit<S: Store>(
     ensures answer { IfOk result (λ _. Visited (S.Store.meaning store.old).has term seen.old
         found.old.items seen.new found.new.items) }
     ensures same { S.Store.meaning store.new ≡ S.Store.meaning store.old }
+    ensures kept { S.Store.kept store.new ≡ S.Store.kept store.old }
 {
     // As an entry of a selector 0 stands for any number, but as a term it is none.
     if term == ANY {

@@ -18,12 +18,13 @@ rank t = capped t.subject * 2 ^ 64 + capped t.property * 2 ^ 32 + capped t.objec
 abbrev pub ahead : Triple → ℕ
 ahead t = 2 ^ 100 - rank t
 
--- the store is the same reference and means what it meant; the match given is the least from the start on,
--- and the start is then right behind it; or there is none, and the start stays
-pub record Advances {S : Type 0} (meaning : S → Meaning) (old : Matches S) (r : Option Triple)
-    (new : Matches S) : Type 0 where
+-- the store is the same reference, means what it meant and keeps what it kept; the match given is the least
+-- from the start on, and the start is then right behind it; or there is none, and the start stays
+pub record Advances {S K : Type 0} (meaning : S → Meaning) (kept : S → K) (old : Matches S)
+    (r : Option Triple) (new : Matches S) : Type 0 where
   pub reference : new.store.ghost_name ≡ old.store.ghost_name
   pub same : meaning new.store.now ≡ meaning old.store.now
+  pub keeps : kept new.store.now ≡ kept old.store.now
   pub selector : new.selector ≡ old.selector
   pub answer : Sought (meaning old.store.now).has old.selector old.start r
   pub start : MatchOption r (new.start ≡ old.start) (λ t. new.start ≡ behind t)

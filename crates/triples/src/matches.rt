@@ -35,7 +35,7 @@ impl<'a, S: Store> Matches<'a, S> {
 impl<S: Store> Iterator for Matches<'_, S> {
     type Item = Triple;
 
-    ghost next_gives = { Advances S.Store.meaning };
+    ghost next_gives = { Advances S.Store.meaning S.Store.kept };
 
     ghost remaining = { λ s. at_most (ahead s.start) };
 

@@ -99,6 +99,10 @@ impl Store for PropertyStore {
         s.good
         s.terms };
 
+    ghost Kept = { Self };
+
+    ghost kept = { λ s. s };
+
     fn top(&mut self) -> u32 {
         self.top
     }

@@ -28,6 +28,10 @@ impl Store for RowStore {
 
     ghost sound = { λ s. listed_sound s.top s.rows.items s.small s.terms };
 
+    ghost Kept = { Self };
+
+    ghost kept = { λ s. s };
+
     fn top(&mut self) -> u32 {
         self.top
     }

@@ -23,8 +23,8 @@ pub(crate) struct Run<'a, T: Element> {
 fn offer(triple: Triple, position: Position, selector: Selector, bound: u32) -> Option<u32>
     ensures { result ≡ offer_of triple position selector bound }
 {
-    let number = triple.value(position);
-    (selector.matches(triple) && bound <= number).then_some(number)
+    let found = selector.matches(triple).then_some(triple);
+    offered(found, position, bound)
 }
 
 // Kept as arguments: a question comes as the calls of a store have it, which are published.

@@ -39,15 +39,23 @@ pub trait Store {
     /// that held another number would have answers that going over the terms never finds.
     ghost sound: { (s : Self) → Sound (meaning s) };
 
+    /// What there is of the store beside its meaning that no question changes: of a layer what is withdrawn,
+    /// and what the store below stands for and keeps.
+    ghost Kept: { Type 0 };
+
+    ghost kept: { Self → Kept };
+
     /// The top.
     fn top(&mut self) -> u32
         ensures answer { result ≡ (meaning self.old).top }
-        ensures same { meaning self.new ≡ meaning self.old };
+        ensures same { meaning self.new ≡ meaning self.old }
+        ensures kept { kept self.new ≡ kept self.old };
 
     /// The least triple that matches the selector and is not below the start; none where there is none.
     fn seek(&mut self, selector: Selector, start: Triple) -> Option<Triple>
         ensures answer { Sought (meaning self.old).has selector start result }
-        ensures same { meaning self.new ≡ meaning self.old };
+        ensures same { meaning self.new ≡ meaning self.old }
+        ensures kept { kept self.new ≡ kept self.old };
 
     /// The smallest number from the bound on that stands at the position in some triple that matches the
     /// selector; none where there is none. One seek answers it where the entries before the position are
@@ -56,6 +64,7 @@ pub trait Store {
     fn leap(&mut self, position: Position, selector: Selector, bound: u32) -> Option<u32>
         ensures answer { Leapt (meaning self.old).has position selector bound result }
         ensures same { meaning self.new ≡ meaning self.old }
+        ensures kept { kept self.new ≡ kept self.old }
     {
         if let Some(start) = selector.aim(position, bound) {
             let found = self.seek(selector, start);

@@ -15,6 +15,10 @@ impl<S: Store> Store for Bare<S> {
 
     ghost sound = { λ s. S.Store.sound s.inner };
 
+    ghost Kept = { S.Store.Kept };
+
+    ghost kept = { λ s. S.Store.kept s.inner };
+
     fn top(&mut self) -> u32 {
         self.inner.top()
     }

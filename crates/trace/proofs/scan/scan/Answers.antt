@@ -11,7 +11,8 @@ loop-triple-preserved g c =
     let i = c.loop-triple.invariant in (
       step.reference ∙ i.0,
       step.same ∙ i.1,
-      step.selector ∙ i.2,
+      step.keeps ∙ i.2,
+      step.selector ∙ i.3,
       scanned_more (g.S.Store.meaning first.store.now).has first.selector {ys = vec_items c.push.new.self}
-          (least_of i.1 i.2 step.answer) step.start c.in_ok-push.ensures.items i.3,
+          (least_of i.1 i.3 step.answer) step.start c.in_ok-push.ensures.items i.4,
     )

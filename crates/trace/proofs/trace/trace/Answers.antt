@@ -18,6 +18,7 @@ levels-init g c =
     let long = c.in_ok-seen.seen.ok.0 in
     let same = ap (λ (m : Meaning). m.top) c.top.ensures.same in (
       refl,
+      refl,
       omega (arith, long, made.len, c.top.ensures.answer, same),
       layers_none (g.S.Store.meaning c.top.new.self).has c.args.term (c.top.result + 1)
           c.new-reached.ensures.items c.in_ok-front.ensures.items
@@ -44,9 +45,10 @@ levels-preserved g c =
     let reached = vec_items c.levels.reached in
     let slice = c.as_slice-in-levels.ensures.value in (
       c.level.ensures.same ∙ c.levels.invariant.0,
+      c.level.ensures.kept ∙ c.levels.invariant.1,
       omega (
         arith,
-        c.levels.invariant.1,
+        c.levels.invariant.2,
         ap length (marks_after g c),
         c.level.auto.seen,
         ap length c.as_mut_slice.ensures.value,
@@ -54,7 +56,7 @@ levels-preserved g c =
       layers_more (g.S.Store.meaning c.top.new.self).has c.args.term (levelled g c)
           (subst (λ (xs : List ℕ). vec_items c.extend_from_slice.new.self ≡ reached ++ xs) slice
           c.in_ok-extend_from_slice.ensures.items)
-          (marks_after g c) c.levels.invariant.2,
+          (marks_after g c) c.levels.invariant.3,
     )
 
 pub returns-clause-answer : goal.returns-clause-answer
@@ -63,4 +65,4 @@ returns-clause-answer g c =
     let long = c.levels.front.ok.0 in
     let empty = nil_from_length (vec_items c.levels.front) (omega (arith, none, long)) in
     subst (λ (m : Meaning). Traced m.has c.args.term (vec_items c.levels.reached)) c.top.ensures.same
-    (layers_all (g.S.Store.meaning c.top.new.self).has c.args.term empty c.levels.invariant.2)
+    (layers_all (g.S.Store.meaning c.top.new.self).has c.args.term empty c.levels.invariant.3)

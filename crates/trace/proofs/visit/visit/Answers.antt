@@ -22,6 +22,7 @@ pub loop-triple-init : goal.loop-triple-init
 loop-triple-init g c =
     let first = c.into_iter-triple-iterator.result in
     let store : g.S.Store.meaning first.store.now ≡ g.S.Store.meaning c.args.store.now = search rules in
+    let kept : g.S.Store.kept first.store.now ≡ g.S.Store.kept c.args.store.now = search rules in
     let selector : first.selector ≡ of_subject c.args.term = search rules in
     let start : first.start ≡ origin = search rules in
     let has = (g.S.Store.meaning c.args.store.now).has in
@@ -29,6 +30,7 @@ loop-triple-init g c =
     let found = vec_items c.args.found.now in (
       refl,
       store,
+      kept,
       selector,
       subst (λ (s : Triple). VisitedTo has c.args.term s seen found seen found) (sym start)
           (visited_none has c.args.term seen found),
@@ -39,7 +41,7 @@ least : (g : Over) (c : In-Some g)
     → Least (g.S.Store.meaning c.args.store.now).has (of_subject c.args.term)
     c.loop-triple.triple-iterator.start c.in-Some.triple
 least g c =
-    least_of c.loop-triple.invariant.1 c.loop-triple.invariant.2 c.in-Some.ensures.steps.answer
+    least_of c.loop-triple.invariant.1 c.loop-triple.invariant.3 c.in-Some.ensures.steps.answer
 
 pub bounds-seen-triple : goal.bounds-seen-triple
 bounds-seen-triple g c =
@@ -58,7 +60,7 @@ going g c n =
     let found = least g c in
     visited_more m.has c.args.term (omega arith) found c.in-Some.ensures.steps.start
     (object_below m (g.S.Store.sound c.args.store.now) found.candidate c.loop-triple.auto.seen c.requires)
-    n c.loop-triple.invariant.3
+    n c.loop-triple.invariant.4
 
 pub loop-triple-preserved : goal.loop-triple-preserved
 loop-triple-preserved g c =
@@ -67,7 +69,8 @@ loop-triple-preserved g c =
     let old = c.replace-first_met.ensures in (
       step.reference ∙ i.0,
       step.same ∙ i.1,
-      step.selector ∙ i.2,
+      step.keeps ∙ i.2,
+      step.selector ∙ i.3,
       going g (goal.at.loop-triple-preserved g c).In-Some
           (noted_met c.in-Some.triple.object c.loop-triple.seen (vec_items c.loop-triple.found)
           old.after old.value c.if-first_met.false),
@@ -80,7 +83,8 @@ loop-triple-preserved-in-Continue-1 g c =
     let old = c.replace-first_met.ensures in (
       step.reference ∙ i.0,
       step.same ∙ i.1,
-      step.selector ∙ i.2,
+      step.keeps ∙ i.2,
+      step.selector ∙ i.3,
       going g (goal.at.loop-triple-preserved-in-Continue-1 g c).In-Some {more = vec_items c.push.new.self}
           (noted_new c.in-Some.triple.object c.loop-triple.seen (vec_items c.loop-triple.found)
           old.after old.value c.if-first_met.true c.in_ok-push.ensures.items),
@@ -90,4 +94,4 @@ pub returns-clause-answer : goal.returns-clause-answer
 returns-clause-answer g c =
     let i = c.loop-triple.invariant in
     visited_all (g.S.Store.meaning c.args.store.now).has c.args.term
-    (none_of i.1 i.2 c.in-None.ensures.steps.answer) i.3
+    (none_of i.1 i.3 c.in-None.ensures.steps.answer) i.4

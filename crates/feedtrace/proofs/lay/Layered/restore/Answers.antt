@@ -1,6 +1,5 @@
-use Rattle.std.proofs.Common.{refl, ap, inl, inr}
+use Rattle.std.proofs.Common.{refl, inl, inr}
 use Rattle.std.proofs.lemmas.Result.{err_from_is_err_and}
-use Rattle.feedtrace.specs.Layerings.{inverted_meaning}
 use Rattle.feedtrace.proofs.lay.Layered.restore.Goals as goal
 
 pub returns-in_err-restore : goal.returns-in_err-restore
@@ -12,7 +11,7 @@ returns-in_err-restore c =
       (
         refl,
         (
-          ap inverted_meaning told.same,
+          told.same,
           inr (c.in_err-restore.field-0.0, (refl, told.answer)),
         ),
       ),
@@ -22,4 +21,4 @@ pub returns : goal.returns
 returns c =
     let told = c.in_ok-restore.ensures in
     rw (c.in-Right.is, c.count.ensures)
-    (c.restore.new.self, (refl, (ap inverted_meaning told.same, inl (refl, told.answer))))
+    (c.restore.new.self, (refl, (told.same, inl (refl, told.answer))))

@@ -1,6 +1,6 @@
 -- A number of which all triples are withdrawn is passed, another is the answer. Long, since the layer changes
 -- inside twice in a turn, at the leap below and at the seek, and each time stands for what it stood for.
-use Rattle.std.proofs.Common.{◌≡◌, ◌+◌, None, sym, ap, ◌∙◌, subst, subst₂}
+use Rattle.std.proofs.Common.{◌≡◌, ◌+◌, None, sym, refl, ap, ◌∙◌, subst, subst₂}
 use Rattle.triples.specs.Meaning.{Meaning}
 use Rattle.triples.specs.Seeks.{Sought, Leapt, Lowest}
 use Rattle.triples.specs.Selectors.{select}
@@ -22,7 +22,7 @@ past : (g : Over) (c : goal.After-leap g)
     c.loop-number.from
 past g c =
     subst (λ (m : Meaning). LeaptPast m.has c.args.position c.args.selector c.args.bound
-    c.loop-number.from) (sym c.loop-number.invariant.0) c.loop-number.invariant.1
+    c.loop-number.from) (sym c.loop-number.invariant.0) c.loop-number.invariant.2
 
 -- behind the leap the layer stands for what it stood for when the turn began
 same_leapt : (g : Over) (c : goal.After-leap g)
@@ -60,6 +60,7 @@ pub loop-number-preserved : goal.loop-number-preserved
 loop-number-preserved g c =
     let at = (goal.at.loop-number-preserved g c).After-leap in (
       c.seek.ensures.same ∙ same_leapt g at ∙ c.loop-number.invariant.0,
+      c.seek.ensures.kept ∙ (rw c.leap.ensures.same (rw c.leap.ensures.kept refl)) ∙ c.loop-number.invariant.1,
       subst
           (λ (m : Meaning). LeaptPast m.has c.args.position c.args.selector c.args.bound
           (c.in-Some.number + 1))

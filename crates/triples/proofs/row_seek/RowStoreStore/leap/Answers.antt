@@ -12,4 +12,5 @@ returns c = record {
       c.leap.result)
       (map-id c.run.result.items.now ∙ c.run.ensures) c.leap.ensures;
   same = refl;
+  kept = refl;
 }

@@ -11,4 +11,5 @@ returns c = record {
       (λ (ts : List Triple). Sought (among ts) c.args.selector c.args.start c.seek.result)
       (map-id c.run.result.items.now ∙ c.run.ensures) c.seek.ensures;
   same = refl;
+  kept = refl;
 }

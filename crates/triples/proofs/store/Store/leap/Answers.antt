@@ -17,11 +17,13 @@ returns-in-Some g c =
           (leapt_from_sought has c.args.position c.args.selector c.args.bound c.in-Some.start
           (sym c.aim.ensures ∙ c.in-Some.is) c.seek-found.result c.seek-found.ensures.answer);
       same = c.seek-found.ensures.same;
+      kept = c.seek-found.ensures.kept;
     }
 
 pub loop-number-init : goal.loop-number-init
 loop-number-init g c =
     let m = g.Self.Store.meaning c.top-top.new.self in (
+      refl,
       refl,
       subst (λ k. (n : ℕ) → Offer m.has c.args.position c.args.selector c.args.bound n → k ≤ n)
           (sym c.first_term-number.ensures)
@@ -52,17 +54,19 @@ returns-then-is_some g c =
           c.args.bound (sym c.in_default.ensures) c.loop-number.number c.seek.result
           (sought g (goal.at.returns-then-is_some g c).After-is_some) c.if-is_some.ensures
           (omega (arith, least.0, first, from)) (omega (arith, least.1, first, from))
-          c.loop-number.invariant.1);
+          c.loop-number.invariant.2);
       same = c.seek.ensures.same ∙ c.loop-number.invariant.0 ∙ c.top-top.ensures.same;
+      kept = c.seek.ensures.kept ∙ c.loop-number.invariant.1 ∙ c.top-top.ensures.kept;
     }
 
 pub loop-number-preserved : goal.loop-number-preserved
 loop-number-preserved g c = (
   c.seek.ensures.same ∙ c.loop-number.invariant.0,
+  c.seek.ensures.kept ∙ c.loop-number.invariant.1,
   passed_more (g.Self.Store.meaning c.top-top.new.self) c.args.position c.args.selector
       c.args.bound (sym c.in_default.ensures) c.loop-number.number c.seek.result
       (sought g (goal.at.loop-number-preserved g c).After-is_some) c.if-is_some.ensures
-      c.loop-number.invariant.1,
+      c.loop-number.invariant.2,
 )
 
 pub returns : goal.returns
@@ -76,6 +80,7 @@ returns g c =
           c.loop-number.number (omega (arith, top, past))
           (subst (λ (k : Meaning). (n : ℕ) → Offer k.has c.args.position c.args.selector
           c.args.bound n
-          → c.loop-number.number ≤ n) c.top-top.ensures.same c.loop-number.invariant.1);
+          → c.loop-number.number ≤ n) c.top-top.ensures.same c.loop-number.invariant.2);
       same = c.loop-number.invariant.0 ∙ c.top-top.ensures.same;
+      kept = c.loop-number.invariant.1 ∙ c.top-top.ensures.kept;
     }
