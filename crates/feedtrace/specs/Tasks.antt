@@ -19,8 +19,8 @@ use Rattle.feedtrace.specs.declared.session.Session.{Session}
 use Rattle.feedtrace.specs.Books.{book_entries}
 use Rattle.feedtrace.specs.Layerings.{layered_meaning}
 
--- the store of s was asked, and P holds of its meaning and the answer; or there is no store. All is as it was:
--- the table, what lies over it, and what is withdrawn
+-- the store of s was asked, and P holds of its meaning and the answer; or there is no store. All is as it
+-- was: the table, what lies over it, and what is withdrawn
 abbrev pub Asked : (Meaning → Carried → Type 0) → Session → Carried → Session → Type 0
 Asked P s r t =
     (t ≡ s) × MatchOption s.store (r ≡ lacks expected.Store) (λ l. P (layered_meaning l) r)

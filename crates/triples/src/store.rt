@@ -29,8 +29,9 @@ fn first_term(bound: u32) -> u32
 
 // Kept as arguments and clauses: the calls are published, and an invariant sees one time only.
 /// A top and a set of triples over the terms from 1 to the top. Everything above is proved against this
-/// meaning alone, for each kind of store. No call refuses anything, and each leaves the meaning as it is; a
-/// kind of store may move things about inside itself when asked, so the calls take `&mut self`.
+/// meaning alone, for each kind of store. No call refuses anything, and each leaves the meaning as it is, and
+/// what the kind of store says that it keeps; it may move other things about inside itself when asked, so the
+/// calls take `&mut self`.
 pub trait Store {
     /// What the store stands for.
     ghost meaning: { Self → Meaning };
@@ -39,10 +40,11 @@ pub trait Store {
     /// that held another number would have answers that going over the terms never finds.
     ghost sound: { (s : Self) → Sound (meaning s) };
 
-    /// What there is of the store beside its meaning that no question changes: of a layer what is withdrawn,
-    /// and what the store below stands for and keeps.
+    /// What kind of thing `kept` is.
     ghost Kept: { Type 0 };
 
+    /// What else of the store no question changes: of a table all of it, of a layer what the store below stands
+    /// for and keeps, and what is withdrawn. What is taken off or restored later hangs on it.
     ghost kept: { Self → Kept };
 
     /// The top.

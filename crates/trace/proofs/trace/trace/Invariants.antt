@@ -1,5 +1,5 @@
--- The store means what it meant and keeps what it kept, the marks have a place for each term, and the levels so
--- far are whole.
+-- The store means what it meant and keeps what it kept, the marks have a place for each term, and the levels
+-- so far are whole.
 use Rattle.std.proofs.Common.{◌≡◌, ◌+◌, ◌<◌, length, vec_items}
 use Rattle.trace.specs.Marks.{unmarked}
 use Rattle.trace.proofs.Steps.{Layers}

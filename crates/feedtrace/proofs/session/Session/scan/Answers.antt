@@ -10,4 +10,5 @@ returns c =
     asked_some (ScanAnswer c.args.selector) c.args.self.now c.in_ok-store.store.now c.scan.new.store
     (Ok (Triples c.in_ok-scan.field-0))
     c.in_ok-store.ensures.value
-    (layered_telling _ _ c.scan.ensures.kept) (inl (c.in_ok-scan.field-0, (refl, c.in_ok-scan.ensures.answer)))
+    (layered_telling _ _ c.scan.ensures.kept)
+    (inl (c.in_ok-scan.field-0, (refl, c.in_ok-scan.ensures.answer)))

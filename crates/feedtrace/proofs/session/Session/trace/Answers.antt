@@ -10,4 +10,5 @@ returns c =
     asked_some (TraceAnswer c.args.term) c.args.self.now c.in_ok-store.store.now c.trace.new.store
     (Ok (Terms c.in_ok-trace.field-0))
     c.in_ok-store.ensures.value
-    (layered_telling _ _ c.trace.ensures.kept) (inl (c.in_ok-trace.field-0, (refl, c.in_ok-trace.ensures.answer)))
+    (layered_telling _ _ c.trace.ensures.kept)
+    (inl (c.in_ok-trace.field-0, (refl, c.in_ok-trace.ensures.answer)))

@@ -60,7 +60,8 @@ pub loop-number-preserved : goal.loop-number-preserved
 loop-number-preserved g c =
     let at = (goal.at.loop-number-preserved g c).After-leap in (
       c.seek.ensures.same ∙ same_leapt g at ∙ c.loop-number.invariant.0,
-      c.seek.ensures.kept ∙ (rw c.leap.ensures.same (rw c.leap.ensures.kept refl)) ∙ c.loop-number.invariant.1,
+      c.seek.ensures.kept ∙ (rw c.leap.ensures.same (rw c.leap.ensures.kept refl))
+          ∙ c.loop-number.invariant.1,
       subst
           (λ (m : Meaning). LeaptPast m.has c.args.position c.args.selector c.args.bound
           (c.in-Some.number + 1))

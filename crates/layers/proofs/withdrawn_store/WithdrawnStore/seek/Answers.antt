@@ -11,10 +11,12 @@ use Rattle.layers.proofs.withdrawn_store.WithdrawnStore.seek.Goals as goal
 -- what the search found among the matches of the store below
 searched : (g : Over) (c : After-find g)
     → Found g.S.Store.meaning g.S.Store.kept c.new.result (g.S.Store.meaning c.args.self.now.below)
-    (g.S.Store.kept c.args.self.now.below) (members c.args.self.now.gone) c.args.selector c.args.start c.find.result c.find.new.self
+    (g.S.Store.kept c.args.self.now.below) (members c.args.self.now.gone) c.args.selector c.args.start
+    c.find.result c.find.new.self
 searched g c =
     found g.S.Store.meaning g.S.Store.kept _ _ _ _ _ _ _ _ (λ x b q k. search (rules, tests))
-    (ap g.S.Store.meaning c.new.ensures.store) (ap g.S.Store.kept c.new.ensures.store) c.new.ensures.selector c.new.ensures.start c.find.ensures.ran
+    (ap g.S.Store.meaning c.new.ensures.store) (ap g.S.Store.kept c.new.ensures.store)
+    c.new.ensures.selector c.new.ensures.start c.find.ensures.ran
 
 pub shape_of-self : goal.shape_of-self
 shape_of-self g c =
