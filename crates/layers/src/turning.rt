@@ -90,8 +90,9 @@ impl Turn {
         })
     }
 
-    /// The least turned triple that matches the selector and is not below the start: one of the least subject
-    /// from the start's on, or one of the next subject where all of that are below the start.
+    /// The least turned triple that matches the selector and is not below the start: one of the subject that is
+    /// named; else one of the least subject from the start's on, or one of the next subject where all of that
+    /// are below the start.
     pub(crate) fn seek<S: Store>(
         self,
         below: &mut S,
@@ -103,6 +104,9 @@ impl Turn {
         ensures same { S.Store.meaning below.new ≡ S.Store.meaning below.old }
         ensures kept { S.Store.kept below.new ≡ S.Store.kept below.old }
     {
+        if selector.subject != ANY {
+            return self.seek_subject(below, selector, start);
+        }
         let subject = self.leap(below, Position::Subject, selector, start.subject)?;
         let of_subject = selector.with(Position::Subject, subject);
         if let Some(found) = self.seek_subject(below, of_subject, start) {

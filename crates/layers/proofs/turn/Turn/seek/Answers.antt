@@ -54,7 +54,7 @@ returns-in_err-next-clause-answer g c =
     (sought_none_next first c.args.selector c.args.start subject c.in_ok-subject.ensures.answer
     (term g at.In_ok-subject).0 (nothing g at.In_default)
     (subst (λ (m : Meaning). Leapt (set m) Subject c.args.selector (subject + 1) None)
-    (c.seek_subject.ensures.same ∙ c.leap.ensures.same) c.in_err-next.ensures.answer))
+    (c.seek_subject-2.ensures.same ∙ c.leap.ensures.same) c.in_err-next.ensures.answer))
 
 pub returns-clause-answer : goal.returns-clause-answer
 returns-clause-answer g c =
@@ -62,11 +62,11 @@ returns-clause-answer g c =
     let set = turned c.args.self.property c.args.self.inverse in
     let subject = c.in_ok-subject.subject in
     let next = c.in_ok-next.next in
-    let same = c.seek_subject.ensures.same ∙ c.leap.ensures.same in
+    let same = c.seek_subject-2.ensures.same ∙ c.leap.ensures.same in
     sought_next (set (g.S.Store.meaning c.args.below.now)) c.args.selector c.args.start subject
     c.in_ok-subject.ensures.answer (term g at.In_ok-subject).0 (nothing g at.In_default) next
     (subst (λ (m : Meaning). Lowest (set m) Subject c.args.selector (subject + 1) next) same
     c.in_ok-next.ensures.answer)
-    c.seek_subject-2.result
-    (subst₂ (λ (m : Meaning) s. Sought (set m) s c.args.start c.seek_subject-2.result)
-    (c.leap-2.ensures.same ∙ same) c.with-of_next.ensures c.seek_subject-2.ensures.answer)
+    c.seek_subject-3.result
+    (subst₂ (λ (m : Meaning) s. Sought (set m) s c.args.start c.seek_subject-3.result)
+    (c.leap-2.ensures.same ∙ same) c.with-of_next.ensures c.seek_subject-3.ensures.answer)
