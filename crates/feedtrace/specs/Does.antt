@@ -1,7 +1,9 @@
 -- What each task does. Assumes nothing.
-use Rattle.std.specs.Prelude.{◌≡◌, [], Some, None, Ok, Err, Option, IsOkAnd}
+use Rattle.std.specs.Prelude.{◌≡◌, [], Some, None, Ok, Err, Option, Result, IsOkAnd}
 use Rattle.std.specs.Option.{option_map}
 use Rattle.catalogue.specs.Inlining.{inlined}
+use Rattle.feedtrace.specs.declared.expected.Expected.{Expected}
+use Rattle.feedtrace.specs.declared.expected.Expected.TheVariants as expected
 use Rattle.feedtrace.specs.declared.outcome.Outcome.{Outcome}
 use Rattle.feedtrace.specs.declared.outcome.Outcome.TheVariants as outcome
 use Rattle.feedtrace.specs.declared.session.Session.{Session}
@@ -18,9 +20,10 @@ use Rattle.feedtrace.specs.Tasks.{Asked, Looked, SeekAnswer, LeapAnswer, ScanAns
 abbrev pub pending : Session → Option Pending
 pending s = option_map pending_of s.loading
 
--- a table with these lists was begun, and all else is as it was
-pub record Begun (d : Draft) (s t : Session) : Type 0 where
-  pub loading : pending t ≡ Some (Ok d)
+-- a table with these lists was begun, or one of whose command something else was expected, and all else is as
+-- it was
+pub record Begun (d : Result Draft Expected) (s t : Session) : Type 0 where
+  pub loading : pending t ≡ Some (record { lines = 0; draft = d })
   pub queries : t.queries ≡ s.queries
   pub store : t.store ≡ s.store
   pub book : t.book ≡ s.book
@@ -41,10 +44,11 @@ Gives P s r t = Comes (λ a c b. IsOkAnd c (λ o. P a o b)) s r t
 
 -- what the task answers and leaves; where it begins a table, there is no outcome yet
 abbrev pub Does : Task → Session → Done → Session → Type 0
-Does (task.RowStore top) s r t = (r ≡ Ok None) × Begun (rows top []) s t
-Does (task.PropertyStore top) s r t = (r ≡ Ok None) × Begun (properties top [] []) s t
+Does (task.RowStore top) s r t = (r ≡ Ok None) × Begun (Ok (rows top [])) s t
+Does (task.PropertyStore top) s r t = (r ≡ Ok None) × Begun (Ok (properties top [] [])) s t
 Does task.InlineCatalogue s r t = Gives Inlined s r t
-Does task.ListedCatalogue s r t = (r ≡ Ok None) × Begun (records []) s t
+Does task.ListedCatalogue s r t = (r ≡ Ok None) × Begun (Ok (records [])) s t
+Does (task.MalformedTable v) s r t = (r ≡ Ok None) × Begun (Err (expected.Form v)) s t
 Does (task.Inverse p q) s r t = Comes (Changed (InverseOn p q)) s r t
 Does task.Withdrawn s r t = Comes (Changed WithdrawnOn) s r t
 Does (task.Withdraw x) s r t = Comes (Changed (WithdrewOn x)) s r t

@@ -1,6 +1,6 @@
 -- The forms of tasks: what follows the word, and what is left behind it. Assumes nothing.
 --     T P Q N S O A B C     numbers from 0 to 4,294,967,295
-use Rattle.std.specs.Prelude.{ℕ, cond, List, Some, None, Ok, Err, codes, Option, Result, ◌==◌}
+use Rattle.std.specs.Prelude.{ℕ, Bool, true, false, cond, List, Some, None, Ok, Err, codes, Option, Result, ◌==◌}
 use Rattle.std.specs.Str.{bytes_eq}
 use Rattle.triples.specs.declared.triple.Triple.{Triple}
 use Rattle.triples.specs.Order.{value_at}
@@ -13,7 +13,7 @@ use Rattle.feedtrace.specs.declared.task.Task.TheVariants as task
 use Rattle.feedtrace.specs.declared.verb.Verb.{Verb}
 use Rattle.feedtrace.specs.declared.verb.Verb.TheVariants as verb
 use Rattle.feedtrace.specs.Fields.{◌>>=◌, first_as, first_from, first_number, first_position}
-use Rattle.feedtrace.specs.Fields.{first_triple, only}
+use Rattle.feedtrace.specs.Fields.{first_triple, next_word, only}
 use Rattle.feedtrace.specs.Verbs.{verb_of}
 
 -- the catalogue that a word names
@@ -78,15 +78,23 @@ task_fields verb.Trace text = number_form task.Trace text
 abbrev pub task_form : Verb → List ℕ → Option Task
 task_form v text = only (task_fields v text)
 
--- the task, or the command's form where there is none
-abbrev pub formed : Verb → Option Task → Result (Option Task) Expected
-formed v None = Err (expected.Form v)
-formed v (Some c) = Ok (Some c)
+-- the word begins a table, with what follows it, be it well formed or not
+abbrev pub begins_table : Verb → List ℕ → Bool
+begins_table verb.RowStore rest = true
+begins_table verb.PropertyStore rest = true
+begins_table verb.Catalogue rest = bytes_eq (next_word rest) (codes "listed")
+begins_table v rest = false
 
--- what a first word with what follows it asks of tables and layers: nothing, a task, or the command's form
+-- the task; where there is none, a table that is malformed, or the command's form where none begins
+abbrev pub formed : Verb → List ℕ → Option Task → Result (Option Task) Expected
+formed v rest None = cond (begins_table v rest) (Ok (Some (task.MalformedTable v))) (Err (expected.Form v))
+formed v rest (Some c) = Ok (Some c)
+
+-- what a first word with what follows it asks of tables and layers: nothing, a task, a table that is
+-- malformed, or the command's form
 abbrev pub asked_by : Option Verb → List ℕ → Result (Option Task) Expected
 asked_by None rest = Ok None
-asked_by (Some v) rest = formed v (task_form v rest)
+asked_by (Some v) rest = formed v rest (task_form v rest)
 
 -- what a line without white space at its ends asks of tables and layers
 abbrev pub task_asked : List ℕ → Result (Option Task) Expected

@@ -51,8 +51,8 @@ InverseOver p q table r after =
 abbrev pub InverseOn : ℕ → ℕ → Layered → Carried → Layered → Type 0
 InverseOn p q (Left (Left table)) r after = InverseOver p q table r after
 InverseOn p q (Left (Right layer)) r after =
-    (r ≡ lacks expected.Layering) × (after ≡ Left (Right layer))
-InverseOn p q (Right layer) r after = (r ≡ lacks expected.Layering) × (after ≡ Right layer)
+    (r ≡ lacks expected.BareTable) × (after ≡ Left (Right layer))
+InverseOn p q (Right layer) r after = (r ≡ lacks expected.BareTable) × (after ≡ Right layer)
 
 -- a withdrawn layer goes over a table or an inverse layer, with nothing withdrawn
 abbrev pub WithdrawnOn : Layered → Carried → Layered → Type 0
@@ -60,7 +60,7 @@ WithdrawnOn (Left below) r after =
     (r ≡ Ok outcome.Layered)
     × ((layer : layers.Withdrawn Inverted) × ((after ≡ Right layer)
     × ((layer.below ≡ below) × (members layer.gone ≡ []))))
-WithdrawnOn (Right layer) r after = (r ≡ lacks expected.Layering) × (after ≡ Right layer)
+WithdrawnOn (Right layer) r after = (r ≡ lacks expected.NoWithdrawnLayer) × (after ≡ Right layer)
 
 -- the layer was asked to change what is withdrawn: P holds of the answer and of what is withdrawn then, which
 -- is counted; and what is below is as it was

@@ -1,11 +1,13 @@
 -- What a line of a table answers, and what it leaves. Assumes nothing.
 use Rattle.std.specs.Prelude.{◌≡◌, ℕ, List, Some, None, Ok, Err, codes, Option, Result, MatchBool}
 use Rattle.std.specs.Prelude.{MatchOption, MatchResult}
+use Rattle.std.specs.Option.{option_map}
 use Rattle.std.specs.Str.{bytes_eq}
-use Rattle.console.specs.Words.{absent, word}
 use Rattle.feedtrace.specs.declared.answer.Answer.{Answer}
 use Rattle.feedtrace.specs.declared.answer.Answer.TheVariants as answer
+use Rattle.feedtrace.specs.declared.expected.Expected.TheVariants as expected
 use Rattle.feedtrace.specs.declared.failure.Failure.{Failure}
+use Rattle.feedtrace.specs.declared.failure.Failure.TheVariants as failure
 use Rattle.feedtrace.specs.declared.session.Session.{Session}
 use Rattle.feedtrace.specs.Does.{pending}
 use Rattle.feedtrace.specs.Drafts.{Pending, LineRead}
@@ -21,10 +23,10 @@ abbrev pub answered : Carried → Told
 answered (Ok o) = Ok (Some (answer.Task o))
 answered (Err e) = Err e
 
--- the table p ended: it is loaded; or one of its lines was wrong, what was expected there is lacking, and
--- the session is as it was
+-- the table p ended: it is loaded; or its command or one of its lines was wrong, what was expected there is
+-- lacking, and the session is as it was
 abbrev pub Ended : Pending → Session → Carried → Session → Type 0
-Ended p s r t = MatchResult p (λ d. Loaded d s r t) (λ e. (r ≡ lacks e) × (t ≡ s))
+Ended p s r t = MatchResult p.draft (λ d. Loaded d s r t) (λ e. (r ≡ lacks e) × (t ≡ s))
 
 -- s without the table that is being read
 abbrev pub closed : Session → Session
@@ -44,8 +46,11 @@ pub record ReadInto (text : List ℕ) (s t : Session) : Type 0 where
   pub store : t.store ≡ s.store
   pub book : t.book ≡ s.book
 
--- a blank line or a remark is passed over, end ends the table, and any other line is read into it
+-- end ends the table, and any other line is read into it
 abbrev pub TableLine : List ℕ → Session → Told → Session → Type 0
 TableLine text s r t =
-    MatchBool (absent (word text)) ((r ≡ Ok None) × (t ≡ s))
-    (MatchBool (bytes_eq text (codes "end")) (Finished s r t) ((r ≡ Ok None) × ReadInto text s t))
+    MatchBool (bytes_eq text (codes "end")) (Finished s r t) ((r ≡ Ok None) × ReadInto text s t)
+
+-- what is lacking where the input ends: the end of the table, if one is being read
+abbrev pub unfinished : Option Pending → Option Failure
+unfinished p = option_map (λ _. failure.Expected expected.End) p

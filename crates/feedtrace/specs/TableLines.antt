@@ -5,7 +5,6 @@ use Rattle.triples.specs.declared.pair.Pair.{Pair}
 use Rattle.triples.specs.declared.triple.Triple.{Triple}
 use Rattle.catalogue.specs.declared.record.Record.{Record}
 use Rattle.feedtrace.specs.declared.expected.Expected.{Expected}
-use Rattle.feedtrace.specs.declared.expected.Expected.TheVariants as expected
 use Rattle.feedtrace.specs.Failures.{memory}
 use Rattle.feedtrace.specs.Fields.{◌>>=◌, alone, first_number, first_signed, first_triple, only}
 
@@ -34,10 +33,10 @@ record_line text = do
   value ← first_signed kind.1
   alone (record { kind = kind.0; value = value.0 }) value.1
 
--- the element, if there is one, was put behind the list; or there is none, or memory is wanting, and the list
--- is as it was
-abbrev pub Pushed : {A U : Type 0} → Option A → List A → Result U Expected → List A → Type 0
-Pushed {A} m xs (Ok _) ys = (x : A) × ((m ≡ Some x) × (ys ≡ xs ++ x ∷ []))
-Pushed {A} m xs (Err e) ys =
-    (ys ≡ xs) × (((e ≡ expected.TableLines) × (m ≡ None))
+-- the element, if there is one, was put behind the list; or there is none and `wanted` is expected, or memory
+-- is wanting, and the list is as it was
+abbrev pub Pushed : {A U : Type 0} → Expected → Option A → List A → Result U Expected → List A → Type 0
+Pushed {A} wanted m xs (Ok _) ys = (x : A) × ((m ≡ Some x) × (ys ≡ xs ++ x ∷ []))
+Pushed {A} wanted m xs (Err e) ys =
+    (ys ≡ xs) × (((e ≡ wanted) × (m ≡ None))
     ⊎ ((e ≡ memory) × ((x : A) × (m ≡ Some x))))

@@ -1,9 +1,10 @@
 //! Carrying out tasks.
 ghost use Rattle.std.specs.Prelude.{◌≡◌, []};
-ghost use Rattle.feedtrace.specs.Drafts.{draft_of};
+ghost use Rattle.feedtrace.specs.Drafts.{draft_or};
 ghost use Rattle.feedtrace.specs.Does.{Begun, Inlined, Does};
 
 use crate::either::Either;
+use crate::expected::Expected;
 use crate::failure::Failure;
 use crate::loading::{Lists, Loading};
 use crate::outcome::Outcome;
@@ -20,15 +21,19 @@ impl Session {
     {
         match task {
             Task::RowStore(top) => {
-                self.begin(Lists::Rows(top, Vec::new(heap)));
+                self.begin(Ok(Lists::Rows(top, Vec::new(heap))));
                 Ok(None)
             }
             Task::PropertyStore(top) => {
-                self.begin(Lists::Properties(top, empty_table(heap)));
+                self.begin(Ok(Lists::Properties(top, empty_table(heap))));
                 Ok(None)
             }
             Task::ListedCatalogue => {
-                self.begin(Lists::Records(Vec::new(heap)));
+                self.begin(Ok(Lists::Records(Vec::new(heap))));
+                Ok(None)
+            }
+            Task::MalformedTable(verb) => {
+                self.begin(Err(Expected::Form(verb)));
                 Ok(None)
             }
             Task::InlineCatalogue => Ok(Some(self.take_inline())),
@@ -44,14 +49,11 @@ impl Session {
         }
     }
 
-    /// Begins a table with these lists, which are empty.
-    fn begin(&mut self, lists: Lists)
-        ensures { Begun (draft_of lists) self.old self.new }
+    /// Begins a table with these lists, which are empty, or with what was expected of its command.
+    fn begin(&mut self, lists: Result<Lists, Expected>)
+        ensures { Begun (draft_or lists) self.old self.new }
     {
-        self.loading = Some(Loading {
-            lists: Ok(lists),
-            lines: 0,
-        });
+        self.loading = Some(Loading { lists, lines: 0 });
     }
 
     /// The inline catalogue becomes the current one.

@@ -23,13 +23,20 @@ pub enum Expected {
     Form(Verb),
     /// A current store.
     Store,
-    /// A store that takes this layer: an inverse layer goes over a table, a withdrawn one over a table or an
-    /// inverse.
-    Layering,
+    /// A table that no layer lies over, for an inverse layer to go over.
+    BareTable,
+    /// A store without a withdrawn layer, for one to go over.
+    NoWithdrawnLayer,
     /// A withdrawn layer on top.
     WithdrawnLayer,
-    /// Lines of the table's form.
-    TableLines,
+    /// A triple, in that line of a row store's table.
+    RowLine(u64),
+    /// A directory entry or a pair, in that line of a property store's table.
+    EntryLine(u64),
+    /// A record, in that line of a catalogue's table.
+    RecordLine(u64),
+    /// The end of the table.
+    End,
 }
 
 impl<T: Drop> From<AllocFailed<T>> for Expected {
@@ -47,9 +54,18 @@ impl fmt::Display for Expected {
             Expected::Shared(expected) => write!(f, "{expected}"),
             Expected::Form(verb) => write!(f, "{verb}"),
             Expected::Store => f.write_str("a current store"),
-            Expected::Layering => f.write_str("a table, or an inverse layer below a withdrawn one"),
+            Expected::BareTable => f.write_str("a store without layers"),
+            Expected::NoWithdrawnLayer => f.write_str("a store without a withdrawn layer"),
             Expected::WithdrawnLayer => f.write_str("a withdrawn layer on top"),
-            Expected::TableLines => f.write_str("lines of the table's form"),
+            Expected::RowLine(line) => write!(f, "S P O in line {line} of the table"),
+            Expected::EntryLine(line) => {
+                write!(
+                    f,
+                    "property P FIRST, or pair S O, in line {line} of the table"
+                )
+            }
+            Expected::RecordLine(line) => write!(f, "KIND VALUE in line {line} of the table"),
+            Expected::End => f.write_str("end"),
         }
     }
 }

@@ -1,7 +1,7 @@
 //! The forms of tasks.
 ghost use Rattle.std.specs.Prelude.{◌≡◌};
 ghost use Rattle.feedtrace.specs.Fields.{Parted};
-ghost use Rattle.feedtrace.specs.Forms.{catalogue_form, catalogue_of, inverse_form, leap_form};
+ghost use Rattle.feedtrace.specs.Forms.{begins_table, catalogue_form, catalogue_of, inverse_form, leap_form};
 ghost use Rattle.feedtrace.specs.Forms.{seek_form, task_asked, task_fields, task_form};
 
 use crate::expected::Expected;
@@ -13,7 +13,7 @@ use triples::selector::ANY;
 
 impl Task {
     /// The task that the text asks; none where its first word is no task's. An error where what follows the
-    /// word has another form than the task's.
+    /// word has another form than the task's, and no table begins.
     pub(crate) fn parse(text: &[u8]) -> Result<Option<Task>, Expected>
         ensures { result ≡ task_asked text.now }
     {
@@ -21,8 +21,11 @@ impl Task {
         let Some(verb) = Verb::of(word) else {
             return Ok(None);
         };
-        let task = Task::of(verb, rest).ok_or(Expected::Form(verb))?;
-        Ok(Some(task))
+        match Task::of(verb, rest) {
+            Some(task) => Ok(Some(task)),
+            None if begins_table(verb, rest) => Ok(Some(Task::MalformedTable(verb))),
+            None => Err(Expected::Form(verb)),
+        }
     }
 
     /// The task that the word and what follows it are; none where it has another form.
@@ -32,6 +35,17 @@ impl Task {
         let mut fields = Fields { rest: text };
         let task = fields.task(verb)?;
         fields.end(task)
+    }
+}
+
+/// Whether the word begins a table, with what follows it, be it well formed or not.
+fn begins_table(verb: Verb, rest: &[u8]) -> bool
+    ensures { result ≡ begins_table verb rest.now }
+{
+    match verb {
+        Verb::RowStore | Verb::PropertyStore => true,
+        Verb::Catalogue => matches!(Fields { rest }.word(), b"listed"),
+        _ => false,
     }
 }
 

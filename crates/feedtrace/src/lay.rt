@@ -30,7 +30,7 @@ impl Layered {
                 ),
                 Err(Declined { rejection, given }) => (bare(given), Err(rejection.into())),
             },
-            other => (other, Err(Expected::Layering.into())),
+            other => (other, Err(Expected::BareTable.into())),
         }
     }
 
@@ -40,7 +40,7 @@ impl Layered {
     {
         match self {
             Either::Left(store) => (Either::Right(Withdrawn::new(store)), Ok(Outcome::Layered)),
-            other => (other, Err(Expected::Layering.into())),
+            other => (other, Err(Expected::NoWithdrawnLayer.into())),
         }
     }
 

@@ -12,8 +12,8 @@ pub(crate) enum Lists {
     Records(Vec<Record>),
 }
 
-/// A table that is being read: its lists so far, or what was expected where a line was wrong; and how many
-/// lines there were.
+/// A table that is being read: its lists so far, or what was expected where its command or a line was wrong;
+/// and how many lines stand behind its command, blank lines and remarks too.
 #[derive(Drop)]
 pub(crate) struct Loading {
     pub(crate) lists: Result<Lists, Expected>,

@@ -41,8 +41,12 @@ fn run(rt: &HostRuntime) -> anyhow::Result<()> {
             Err(failure) => rt.println(failure)?,
         }
         if let Some(lines) = session.progress() {
-            eprintln!(rt; "{lines} lines of the table read")?;
+            // A remark that cannot be printed is no reason to end.
+            let _ = eprintln!(rt; "{lines} lines of the table read");
         }
+    }
+    if let Some(failure) = session.unfinished() {
+        rt.println(failure)?;
     }
     Ok(())
 }

@@ -1,7 +1,7 @@
 //! The lines of a table.
 ghost use Rattle.std.specs.Prelude.{◌≡◌};
 ghost use Rattle.feedtrace.specs.TableLines.{Pushed, entry_line, pair_line, record_line, row_line};
-ghost use Rattle.feedtrace.specs.Drafts.{draft_of, Drafted, EntryTaken};
+ghost use Rattle.feedtrace.specs.Drafts.{draft_of, line_expected, Drafted, EntryTaken};
 
 use crate::expected::Expected;
 use crate::field::Fields;
@@ -50,36 +50,48 @@ impl Fields<'_> {
     }
 }
 
-/// Puts the element behind the list; nothing is put where there is none, or where memory is wanting.
-fn push<T: Drop>(list: &mut Vec<T>, element: Option<T>) -> Result<(), Expected>
-    ensures { Pushed element list.old.items result list.new.items }
+/// Puts the element behind the list; nothing is put where there is none and `wanted` is expected, or where
+/// memory is wanting.
+fn push<T: Drop>(list: &mut Vec<T>, element: Option<T>, wanted: Expected) -> Result<(), Expected>
+    ensures { Pushed wanted element list.old.items result list.new.items }
 {
-    list.push(element.ok_or(Expected::TableLines)?)?;
+    list.push(element.ok_or(wanted)?)?;
     Ok(())
 }
 
 /// Takes a line of a property store: a directory entry or a pair.
-fn take_entry(table: &mut PropertyTable, text: &[u8]) -> Result<(), Expected>
-    ensures { EntryTaken text.now table.old result table.new }
+fn take_entry(table: &mut PropertyTable, text: &[u8], wanted: Expected) -> Result<(), Expected>
+    ensures { EntryTaken wanted text.now table.old result table.new }
 {
     let mut fields = Fields { rest: text };
     match fields.word() {
-        b"property" => push(&mut table.directory, fields.entry()),
-        b"pair" => push(&mut table.pairs, fields.pair()),
-        _ => Err(Expected::TableLines),
+        b"property" => push(&mut table.directory, fields.entry(), wanted),
+        b"pair" => push(&mut table.pairs, fields.pair(), wanted),
+        _ => Err(wanted),
     }
 }
 
 impl Lists {
-    /// Takes a line of the table: its element is put behind the list that it belongs to. Nothing is put where
-    /// the line has another form, or where memory is wanting.
-    pub(crate) fn take(&mut self, text: &[u8]) -> Result<(), Expected>
-        ensures { Drafted (draft_of self.old) text.now result (draft_of self.new) }
+    /// What is expected of line `line` of the table.
+    pub(crate) fn line(&self, line: u64) -> Expected
+        ensures { result ≡ line_expected (draft_of self.now) line }
     {
         match self {
-            Lists::Rows(_, rows) => push(rows, Fields { rest: text }.row()),
-            Lists::Properties(_, table) => take_entry(table, text),
-            Lists::Records(records) => push(records, Fields { rest: text }.record()),
+            Lists::Rows(..) => Expected::RowLine(line),
+            Lists::Properties(..) => Expected::EntryLine(line),
+            Lists::Records(_) => Expected::RecordLine(line),
+        }
+    }
+
+    /// Takes a line of the table: its element is put behind the list that it belongs to. Nothing is put where
+    /// the line has another form and `wanted` is expected, or where memory is wanting.
+    pub(crate) fn take(&mut self, text: &[u8], wanted: Expected) -> Result<(), Expected>
+        ensures { Drafted wanted (draft_of self.old) text.now result (draft_of self.new) }
+    {
+        match self {
+            Lists::Rows(_, rows) => push(rows, Fields { rest: text }.row(), wanted),
+            Lists::Properties(_, table) => take_entry(table, text, wanted),
+            Lists::Records(records) => push(records, Fields { rest: text }.record(), wanted),
         }
     }
 }

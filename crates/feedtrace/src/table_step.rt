@@ -1,32 +1,41 @@
 //! The lines of a table in a session, and its end.
-ghost use Rattle.feedtrace.specs.Drafts.{pending_of};
-ghost use Rattle.feedtrace.specs.Lines.{Ended, Finished, ReadInto, TableLine};
+ghost use Rattle.std.specs.Prelude.{◌≡◌};
+ghost use Rattle.feedtrace.specs.Does.{pending};
+ghost use Rattle.feedtrace.specs.Drafts.{pending_of, progress_of};
+ghost use Rattle.feedtrace.specs.Lines.{Ended, Finished, ReadInto, TableLine, unfinished};
 
 use crate::answer::Answer;
+use crate::expected::Expected;
 use crate::failure::Failure;
 use crate::loading::Loading;
 use crate::outcome::Outcome;
 use crate::session::Session;
-use console::line::{is_absent, split_word};
 
 /// How many lines of a table there are between two remarks on how far it is.
 const REMARK_EVERY: u64 = 100_000;
 
 impl Session {
     /// How many lines of the table are read, at each hundred thousandth; none elsewhere.
-    pub(crate) fn progress(&self) -> Option<u64> {
+    pub(crate) fn progress(&self) -> Option<u64>
+        ensures { result ≡ progress_of (pending self.now) }
+    {
         let lines = self.loading.as_ref()?.lines;
         (lines > 0 && lines % REMARK_EVERY == 0).then_some(lines)
+    }
+
+    /// What is expected where the input ends: the end of the table, if one is being read.
+    pub(crate) fn unfinished(&self) -> Option<Failure>
+        ensures { result ≡ unfinished (pending self.now) }
+    {
+        self.loading
+            .as_ref()
+            .map(|_| Failure::Expected(Expected::End))
     }
 
     /// Answers a line of the table that is being read; nothing where it is only read.
     pub(crate) fn table_line(&mut self, text: &[u8]) -> Result<Option<Answer>, Failure>
         ensures { TableLine text.now self.old result self.new }
     {
-        let (word, _) = split_word(text);
-        if is_absent(word) {
-            return Ok(None);
-        }
         match text {
             b"end" => self.finish(),
             _ => {
@@ -56,7 +65,7 @@ impl Session {
         }
     }
 
-    /// The end of the table: it is loaded, or one of its lines was wrong.
+    /// The end of the table: it is loaded, or its command or one of its lines was wrong.
     fn end(&mut self, table: Loading) -> Result<Outcome, Failure>
         ensures { Ended (pending_of table) self.old result self.new }
     {

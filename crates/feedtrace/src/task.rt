@@ -1,4 +1,5 @@
 //! What the console does with tables, layers, and what they hold.
+use crate::verb::Verb;
 use triples::position::Position;
 use triples::selector::Selector;
 use triples::triple::Triple;
@@ -15,6 +16,8 @@ pub enum Task {
     InlineCatalogue,
     /// Begins a listed catalogue.
     ListedCatalogue,
+    /// Begins a table whose command has another form than the word's: it is an error at its end.
+    MalformedTable(Verb),
     /// Puts an inverse layer of the two properties over the current store.
     Inverse(u32, u32),
     /// Puts a withdrawn layer over the current store.

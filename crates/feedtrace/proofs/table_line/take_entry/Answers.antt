@@ -8,11 +8,12 @@ use Rattle.feedtrace.specs.TableLines.{Pushed}
 use Rattle.feedtrace.proofs.table_line.take_entry.Goals as goal
 
 -- an element that is put behind its list is taken into the draft that is made of the list
-Drafted-from_pushed : {A U : Type 0} (make : List A → Draft) (text : List _) (m : Option A) (xs ys : List A)
-    (r : Result U Expected) → drafted (make xs) text ≡ added xs make m → Pushed m xs r ys
-    → Drafted (make xs) text r (make ys)
-Drafted-from_pushed make text m xs ys (Ok u) takes put = takes ∙ rw (put.1.0, put.1.1)
-Drafted-from_pushed make text m xs ys (Err e) takes put = (
+Drafted-from_pushed : {A U : Type 0} (wanted : Expected) (make : List A → Draft) (text : List _)
+    (m : Option A) (xs ys : List A)
+    (r : Result U Expected) → drafted (make xs) text ≡ added xs make m → Pushed wanted m xs r ys
+    → Drafted wanted (make xs) text r (make ys)
+Drafted-from_pushed wanted make text m xs ys (Ok u) takes put = takes ∙ rw (put.1.0, put.1.1)
+Drafted-from_pushed wanted make text m xs ys (Err e) takes put = (
   ap make put.0,
   elim put.1 [
     | inl none ↦ inl (none.0, takes ∙ rw none.1)
@@ -25,7 +26,8 @@ returns-in-property c =
     let is = text_from_reads c.word.result.now (codes "property") (omega arith) (search rules) in
     let table = c.args.table.now in
     let put = c.push-in-property in
-    λ top. Drafted-from_pushed (λ es. properties top es table.pairs.items) c.args.text.now c.entry.result
+    λ top. Drafted-from_pushed c.args.wanted (λ es. properties top es table.pairs.items) c.args.text.now
+    c.entry.result
     table.directory.items _ put.result
     (rw (sym c.word.ensures.first ∙ is, ← c.word.ensures.rest, ← c.entry.ensures) refl) put.ensures
 
@@ -34,6 +36,7 @@ returns-in-pair c =
     let is = text_from_reads c.word.result.now (codes "pair") (omega arith) (search rules) in
     let table = c.args.table.now in
     let put = c.push in
-    λ top. Drafted-from_pushed (properties top table.directory.items) c.args.text.now c.pair.result
+    λ top. Drafted-from_pushed c.args.wanted (properties top table.directory.items) c.args.text.now
+    c.pair.result
     table.pairs.items _ put.result
     (rw (sym c.word.ensures.first ∙ is, ← c.word.ensures.rest, ← c.pair.ensures) refl) put.ensures
