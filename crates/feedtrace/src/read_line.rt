@@ -5,7 +5,8 @@ use crate::loading::Loading;
 use console::line::{is_absent, split_word};
 
 impl Loading {
-    /// Reads a line of the table. A blank line or a remark is only counted; after a wrong line no more is taken.
+    /// Reads a line of the table. A blank line or a remark is only counted; after a wrong line no more is
+    /// taken.
     pub(crate) fn read(&mut self, text: &[u8])
         ensures { LineRead (pending_of self.old) text.now (pending_of self.new) }
     {

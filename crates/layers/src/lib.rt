@@ -5,6 +5,7 @@ pub mod inverse;
 pub mod inverse_store;
 mod inverting;
 mod members;
+pub mod theorems;
 mod triple_set;
 mod turn;
 mod turning;

@@ -90,9 +90,9 @@ impl Turn {
         })
     }
 
-    /// The least turned triple that matches the selector and is not below the start: one of the subject that is
-    /// named; else one of the least subject from the start's on, or one of the next subject where all of that
-    /// are below the start.
+    /// The least turned triple that matches the selector and is not below the start: one of the subject that
+    /// is named; else one of the least subject from the start's on, or one of the next subject where all of
+    /// that are below the start.
     pub(crate) fn seek<S: Store>(
         self,
         below: &mut S,

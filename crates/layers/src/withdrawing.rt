@@ -7,16 +7,8 @@ use crate::triple_set::TripleSet;
 use crate::withdrawn::Withdrawn;
 use refusal::refusal::Refusal;
 use refusal::rejection::Rejection;
-use triples::selector::{ANY, Selector};
 use triples::store::Store;
 use triples::triple::Triple;
-
-/// The selector that every triple matches.
-const EVERY: Selector = Selector {
-    subject: ANY,
-    property: ANY,
-    object: ANY,
-};
 
 // Kept as a clause: a store may move things about when asked; no invariant tells what it meant before.
 /// Whether the store holds the triple.
@@ -25,7 +17,7 @@ fn is_held<S: Store>(store: &mut S, triple: Triple) -> bool
     ensures same { S.Store.meaning store.new ≡ S.Store.meaning store.old }
     ensures kept { S.Store.kept store.new ≡ S.Store.kept store.old }
 {
-    store.seek(EVERY, triple) == Some(triple)
+    store.seek(triple.into(), triple) == Some(triple)
 }
 
 impl<S: Store> Withdrawn<S> {

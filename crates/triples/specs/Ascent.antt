@@ -1,5 +1,4 @@
 -- Strictly ascending lists, under any order given by what comparing two elements may answer. Assumes nothing.
---     Order X      which answers comparing two elements of X may have
 use Rattle.std.specs.Prelude.{◌≡◌, ℕ, ◌+◌, ◌-◌, ◌<◌, List, length, slice_index_or}
 use Rattle.std.specs.declared.cmp.Ordering.TheVariants.{Less}
 use Rattle.std.specs.declared.cmp.Ordering.{Ordering}

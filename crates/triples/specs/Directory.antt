@@ -52,8 +52,8 @@ follows dir zero = first_of dir 0 == 0
 follows dir (suc i) = nat_lt (property_of dir i) (property_of dir (suc i))
     && nat_le (first_of dir i) (first_of dir (suc i))
 
--- entry i is in order, in a table of so many pairs: its property is a term, its place is not behind the last
--- pair, and it goes on from the one before it
+-- entry i is in order, in a table of so many pairs: its property is a term, its place is not over the number
+-- of pairs, and it goes on from the one before it
 abbrev pub entry_good : ℕ → List DirectoryEntry → ℕ → ℕ → Bool
 entry_good top dir pairs i =
     (term top (property_of dir i) && nat_le (first_of dir i) pairs) && follows dir i

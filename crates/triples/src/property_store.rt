@@ -20,7 +20,8 @@ pub struct PropertyStore {
     /// At most 1,000,000.
     pub(crate) top: u32,
     // Kept as a directory with places: a table is published in this form, and loading it allocates nothing.
-    /// Properties ascend strictly from 1 to the top; first places begin at 0, never fall, and pass no pair.
+    /// Properties ascend strictly from 1 to the top; first places begin at 0, never fall, and none is over
+    /// the number of pairs.
     pub(crate) directory: Vec<DirectoryEntry>,
     /// Each entry's ascend strictly; each number is from 1 to the top.
     pub(crate) pairs: Vec<Pair>,

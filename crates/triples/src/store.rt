@@ -43,8 +43,8 @@ pub trait Store {
     /// What kind of thing `kept` is.
     ghost Kept: { Type 0 };
 
-    /// What else of the store no question changes: of a table all of it, of a layer what the store below stands
-    /// for and keeps, and what is withdrawn. What is taken off or restored later hangs on it.
+    /// What else of the store no question changes: of a table all of it, of a layer what the store below
+    /// stands for and keeps, and what is withdrawn. What is taken off or restored later hangs on it.
     ghost kept: { Self → Kept };
 
     /// The top.

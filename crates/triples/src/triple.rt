@@ -17,7 +17,7 @@ pub const ORIGIN: Triple = Triple {
     object: 0,
 };
 
-// Kept as methods: both are public and stay so, beside the derived `<` and `==`, which say the same.
+// Kept as methods: they say what the derived `<` and `==` come to, in the words of `specs/`.
 impl Triple {
     /// Whether the triple comes before the other.
     pub fn is_before(self, other: Triple) -> bool
