@@ -6,9 +6,9 @@ use Rattle.refusal.specs.declared.refusal.Refusal.TheVariants.{AlreadyWithdrawn,
 use Rattle.triples.specs.declared.triple.Triple.{Triple}
 use Rattle.triples.specs.Meaning.{Meaning, among}
 use Rattle.layers.specs.Histories.{After, RestoredIsThere}
-use Rattle.layers.specs.Sets.{Held, Removed}
+use Rattle.layers.specs.Sets.{Removed}
 use Rattle.layers.specs.Withdrawals.{without, amended, outcome}
-use Rattle.layers.proofs.Sets.{held_push}
+use Rattle.layers.proofs.Sets.{Held, held_push}
 
 -- what is not refused is in the store below
 ok_stored : (away stored room : Bool)

@@ -13,10 +13,14 @@ use Rattle.triples.specs.Meaning.{among}
 use Rattle.triples.specs.Laws.{among-append}
 use Rattle.triples.specs.Order.{same}
 use Rattle.triples.proofs.Order.{same_is}
-use Rattle.layers.specs.Sets.{occurrences, Held, Once, Removed}
+use Rattle.layers.specs.Sets.{occurrences, Once, Removed}
 
 pub among_push : (xs : List Triple) (y t : Triple) → among (xs ++ y ∷ []) t ≡ (among xs t || same y t)
 among_push xs y t = grind (arith, nat_tests, among-append xs (y ∷ []) t)
+
+-- each triple of the list is in the set
+abbrev pub Held : (Triple → Bool) → List Triple → Type 0
+Held has xs = (t : Triple) → among xs t ≡ true → has t ≡ true
 
 -- a triple of the set was put behind a list of its triples, or the list is as it was
 pub held_push : (has : Triple → Bool) (xs ys : List Triple) (y : Triple) (more : Bool)

@@ -23,7 +23,3 @@ Removed xs t true ys =
     × ((u : Triple) → among ys u ≡ (among xs u && not (same t u)))
     × (length ys + 1 ≡ length xs)
 Removed xs t false ys = (among xs t ≡ false) × (ys ≡ xs)
-
--- each triple of the list is in the set
-abbrev pub Held : (Triple → Bool) → List Triple → Type 0
-Held has xs = (t : Triple) → among xs t ≡ true → has t ≡ true

@@ -68,8 +68,9 @@ impl<S: Store> Withdrawn<S> {
             .map_err(|_| Rejection::unplaced(Refusal::WithdrawnFull))
     }
 
-    /// Puts the triple back: it is in the meaning if it is in the store below, and nothing else changes.
-    /// Refused with 24, with no place, where it is not withdrawn; a refusal changes nothing.
+    /// Puts the triple back: it is in the meaning if it is in the store below, as what is withdrawn always is
+    /// (`theorems`), and nothing else changes. Refused with 24, with no place, where it is not withdrawn; a
+    /// refusal changes nothing.
     pub fn restore(&mut self, triple: Triple) -> Result<(), Rejection>
         ensures answer { Restores (S.Store.meaning self.old.below)
             (members self.old.gone) triple result (members self.new.gone) }
