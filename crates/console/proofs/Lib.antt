@@ -1,4 +1,5 @@
 -- Read in this order.
 mod Folds  -- what folding bytes answers
 mod Numerals  -- laws of numbers
+pub mod Decimals  -- a number is read of its numerals, and of nothing else
 mod Requests  -- laws of requests
