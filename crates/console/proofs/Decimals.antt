@@ -1,8 +1,8 @@
 -- A number is read of its numerals, and of nothing else. Assumes nothing.
 use Rattle.std.proofs.Common.{◌≡◌, ℕ, suc, zero, ◌+◌, ◌-◌, ◌*◌, ◌≤◌, ◌<◌, ◌&&◌, ◌++◌, leb, cond}
-use Rattle.std.proofs.Common.{Bool, true, false, List, [], ◌∷◌, length, replicate, Some, None, Option, decimal}
-use Rattle.std.proofs.Common.{option_and_then, sym, refl, ap, subst, ◌∙◌, ⊎_elim, arith, le-leb, leb-true}
-use Rattle.std.proofs.Common.{length-append}
+use Rattle.std.proofs.Common.{Bool, true, false, List, [], ◌∷◌, length, replicate, Some, None, Option}
+use Rattle.std.proofs.Common.{decimal, option_and_then, sym, refl, ap, subst, ◌∙◌, ⊎_elim, arith, le-leb}
+use Rattle.std.proofs.Common.{leb-true, length-append}
 use Rattle.std.specs.Str.Parse.{AllDigits, digits_value, digits_value_after}
 use Rattle.std.specs.Char.{digit_value as value_of_digit}
 use Rattle.std.proofs.lemmas.Bool.{and_from, and_parts, cases_eq, cond-true, cond_both}
