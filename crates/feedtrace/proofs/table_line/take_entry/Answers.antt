@@ -27,7 +27,7 @@ returns-in-property c =
     let put = c.push-in-property in
     λ top. Drafted-from_pushed (λ es. properties top es table.pairs.items) c.args.text.now c.entry.result
     table.directory.items _ put.result
-    (rw (sym c.word.ensures.first ∙ is, ← c.word.ensures.rest, ← c.entry.ensures) refl) put.ensures
+    (rw (sym c.word.ensures.first ∙ is, ← c.word.ensures.rest, ← c.entry.ensures.said) refl) put.ensures
 
 pub returns-in-pair : goal.returns-in-pair
 returns-in-pair c =
@@ -36,4 +36,4 @@ returns-in-pair c =
     let put = c.push in
     λ top. Drafted-from_pushed (properties top table.directory.items) c.args.text.now c.pair.result
     table.pairs.items _ put.result
-    (rw (sym c.word.ensures.first ∙ is, ← c.word.ensures.rest, ← c.pair.ensures) refl) put.ensures
+    (rw (sym c.word.ensures.first ∙ is, ← c.word.ensures.rest, ← c.pair.ensures.said) refl) put.ensures
