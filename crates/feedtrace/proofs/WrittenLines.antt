@@ -3,9 +3,12 @@ use Rattle.std.proofs.Common.{◌≡◌, ℕ, ◌++◌, codes, decimal, List, Op
 use Rattle.triples.specs.declared.entry.DirectoryEntry.{DirectoryEntry}
 use Rattle.triples.specs.declared.pair.Pair.{Pair}
 use Rattle.triples.specs.declared.triple.Triple.{Triple}
+use Rattle.catalogue.specs.declared.record.Record.{Record}
+use Rattle.std.specs.Fmt.{signed_decimal}
 use Rattle.feedtrace.proofs.Fields.{first_number-decimal, first_number-last, first_number-space}
-use Rattle.feedtrace.specs.TableLines.{entry_line, pair_line, row_line}
-use Rattle.feedtrace.specs.WrittenLines.{EntryReadsBack, PairReadsBack, RowReadsBack}
+use Rattle.feedtrace.proofs.Fields.{first_signed-last}
+use Rattle.feedtrace.specs.TableLines.{entry_line, pair_line, record_line, row_line}
+use Rattle.feedtrace.specs.WrittenLines.{EntryReadsBack, PairReadsBack, RecordReadsBack, RowReadsBack}
 
 -- the text of a triple is read as the triple
 pub RowReadsBack-from_said : (text : List ℕ) (r : Option Triple) → r ≡ row_line text → RowReadsBack text r
@@ -30,3 +33,11 @@ EntryReadsBack-from_said text r said e small written =
     let p = first_number-space e.property (codes " " ++ decimal e.first) small.0 refl in
     let f = first_number-last e.first small.1 in
     said ∙ ap entry_line written ∙ rw (p, f) refl
+
+-- the text of a record is read as the record
+pub RecordReadsBack-from_said : (text : List ℕ) (r : Option Record) → r ≡ record_line text
+    → RecordReadsBack text r
+RecordReadsBack-from_said text r said e small written =
+    let k = first_number-decimal e.kind (codes " " ++ signed_decimal e.value) small.0 refl in
+    let v = first_signed-last e.value small.1 in
+    said ∙ ap record_line written ∙ rw (k, v) refl

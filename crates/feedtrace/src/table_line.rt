@@ -1,7 +1,7 @@
 //! The lines of a table.
 ghost use Rattle.std.specs.Prelude.{◌≡◌};
 ghost use Rattle.feedtrace.specs.TableLines.{Pushed, entry_line, pair_line, record_line, row_line};
-ghost use Rattle.feedtrace.specs.WrittenLines.{EntryReadsBack, PairReadsBack, RowReadsBack};
+ghost use Rattle.feedtrace.specs.WrittenLines.{EntryReadsBack, PairReadsBack, RecordReadsBack, RowReadsBack};
 ghost use Rattle.feedtrace.specs.Drafts.{draft_of, Drafted, EntryTaken};
 
 use crate::expected::Expected;
@@ -46,7 +46,8 @@ impl Fields<'_> {
 
     /// A kind and a value with its sign, if nothing follows them.
     fn record(mut self) -> Option<Record>
-        ensures { result ≡ record_line self.entry.rest.now }
+        ensures said { result ≡ record_line self.entry.rest.now }
+        ensures law { RecordReadsBack self.entry.rest.now result }
     {
         let kind = self.number()?;
         let value = self.signed()?;
