@@ -1,8 +1,9 @@
 -- Numbers, as decimal digits. Assumes nothing.
 --     number_after n text      n with the digits of text behind its own
 --     number_from most text    the number that text says, if it says one up to most
-use Rattle.std.specs.Prelude.{ℕ, ◌+◌, ◌-◌, ◌*◌, cond, ◌&&◌, List, [], ◌∷◌, Some, None, Option, nat_le, nat_lt}
-use Rattle.std.specs.Prelude.{option_and_then}
+--     NumeralOf n text         text is the decimal digits of n, maybe with zeros in front
+use Rattle.std.specs.Prelude.{◌≡◌, ℕ, ◌+◌, ◌-◌, ◌*◌, ◌≤◌, ◌↔◌, cond, ◌&&◌, List, [], ◌∷◌, ◌++◌, replicate}
+use Rattle.std.specs.Prelude.{Some, None, Option, nat_le, nat_lt, option_and_then, decimal}
 
 -- the greatest length that a command may give
 abbrev pub most_length : ℕ
@@ -31,3 +32,15 @@ number_from most (c ∷ cs) = limited most (number_after 0 (c ∷ cs))
 abbrev pub followed : ℕ → ℕ → Option ℕ
 followed n c =
     option_and_then (λ d. cond (nat_lt (10 * n + d) 4294967296) (Some (10 * n + d)) None) (digit_value c)
+
+-- the digit 0
+abbrev pub digit_zero : ℕ
+digit_zero = 48
+
+-- text is a numeral of n: the decimal digits that are written of n, behind any number of zeros
+abbrev pub NumeralOf : ℕ → List ℕ → Type 0
+NumeralOf n text = (zeros : ℕ) × (text ≡ replicate zeros digit_zero ++ decimal n)
+
+-- n is what is read of text exactly if n is at most most and text is a numeral of n; of all else none is read
+abbrev pub ReadsNumerals : ℕ → List ℕ → Option ℕ → Type 0
+ReadsNumerals most text r = (n : ℕ) → (r ≡ Some n) ↔ ((n ≤ most) × NumeralOf n text)

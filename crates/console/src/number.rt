@@ -1,12 +1,13 @@
 //! Numbers, as decimal digits.
 ghost use Rattle.std.specs.Prelude.{◌≡◌};
-ghost use Rattle.console.specs.Numerals.{digit_value, followed, number_from};
+ghost use Rattle.console.specs.Numerals.{ReadsNumerals, digit_value, followed, number_from};
 
 // Kept as a fold: `parse` wants text and takes a plus in front, which no number of a line may have.
 /// The number that decimal digits say; none where there is no digit or something else, or where the number is
 /// greater than `most`.
 pub fn number_of(digits: &[u8], most: u32) -> Option<u32>
-    ensures { result ≡ number_from most digits.now }
+    ensures said { result ≡ number_from most digits.now }
+    ensures law { ReadsNumerals most digits.now result }
 {
     if digits.is_empty() {
         return None;

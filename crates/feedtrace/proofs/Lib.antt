@@ -1,4 +1,7 @@
 -- Read in this order.
+mod Numerals  -- laws of numbers with a sign
+mod Fields  -- laws of what stands first in the rest of a line
+mod WrittenLines  -- laws of lines that are written of an element
 mod Keeping  -- what tables and layers keep
 mod Tasks  -- laws of tasks
 mod Laying  -- laws of changing a store

@@ -2,6 +2,7 @@
 ghost use Rattle.std.specs.Prelude.{◌≡◌};
 ghost use Rattle.feedtrace.specs.TableLines.{Pushed, entry_line, pair_line, record_line, row_line};
 ghost use Rattle.feedtrace.specs.Drafts.{draft_of, line_expected, Drafted, EntryTaken};
+ghost use Rattle.feedtrace.specs.WrittenLines.{EntryReadsBack, PairReadsBack, RecordReadsBack, RowReadsBack};
 
 use crate::expected::Expected;
 use crate::field::Fields;
@@ -16,7 +17,8 @@ use triples::triple::Triple;
 impl Fields<'_> {
     /// A triple, if nothing follows it.
     fn row(mut self) -> Option<Triple>
-        ensures { result ≡ row_line self.entry.rest.now }
+        ensures said { result ≡ row_line self.entry.rest.now }
+        ensures law { RowReadsBack self.entry.rest.now result }
     {
         let triple = self.triple()?;
         self.end(triple)
@@ -24,7 +26,8 @@ impl Fields<'_> {
 
     /// A directory entry, if nothing follows it.
     fn entry(mut self) -> Option<DirectoryEntry>
-        ensures { result ≡ entry_line self.entry.rest.now }
+        ensures said { result ≡ entry_line self.entry.rest.now }
+        ensures law { EntryReadsBack self.entry.rest.now result }
     {
         let property = self.number()?;
         let first = self.number()?;
@@ -33,7 +36,8 @@ impl Fields<'_> {
 
     /// A pair, if nothing follows it.
     fn pair(mut self) -> Option<Pair>
-        ensures { result ≡ pair_line self.entry.rest.now }
+        ensures said { result ≡ pair_line self.entry.rest.now }
+        ensures law { PairReadsBack self.entry.rest.now result }
     {
         let subject = self.number()?;
         let object = self.number()?;
@@ -42,7 +46,8 @@ impl Fields<'_> {
 
     /// A kind and a value with its sign, if nothing follows them.
     fn record(mut self) -> Option<Record>
-        ensures { result ≡ record_line self.entry.rest.now }
+        ensures said { result ≡ record_line self.entry.rest.now }
+        ensures law { RecordReadsBack self.entry.rest.now result }
     {
         let kind = self.number()?;
         let value = self.signed()?;

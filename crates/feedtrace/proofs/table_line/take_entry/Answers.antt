@@ -29,7 +29,7 @@ returns-in-property c =
     λ top. Drafted-from_pushed c.args.wanted (λ es. properties top es table.pairs.items) c.args.text.now
     c.entry.result
     table.directory.items _ put.result
-    (rw (sym c.word.ensures.first ∙ is, ← c.word.ensures.rest, ← c.entry.ensures) refl) put.ensures
+    (rw (sym c.word.ensures.first ∙ is, ← c.word.ensures.rest, ← c.entry.ensures.said) refl) put.ensures
 
 pub returns-in-pair : goal.returns-in-pair
 returns-in-pair c =
@@ -39,4 +39,4 @@ returns-in-pair c =
     λ top. Drafted-from_pushed c.args.wanted (properties top table.directory.items) c.args.text.now
     c.pair.result
     table.pairs.items _ put.result
-    (rw (sym c.word.ensures.first ∙ is, ← c.word.ensures.rest, ← c.pair.ensures) refl) put.ensures
+    (rw (sym c.word.ensures.first ∙ is, ← c.word.ensures.rest, ← c.pair.ensures.said) refl) put.ensures

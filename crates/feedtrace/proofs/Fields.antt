@@ -1,0 +1,58 @@
+-- Laws of what stands first in the rest of a line. Assumes nothing.
+use Rattle.std.proofs.Common.{◌≡◌, ℕ, ◌≤◌, ◌++◌, codes, decimal, length, List, [], Some, Option, ℤ}
+use Rattle.std.proofs.Common.{arith, refl, sym, ap, ◌∙◌, append-nil}
+use Rattle.std.specs.Fmt.{signed_decimal}
+use Rattle.console.proofs.Decimals.{number_from-numeral}
+use Rattle.console.proofs.Words.{after_word-append, unindented-decimal, unindented-space, word-append}
+use Rattle.console.proofs.Words.{word_length-decimal}
+use Rattle.console.specs.Numerals.{number_from}
+use Rattle.console.specs.Words.{after_word, unindented, word, word_length}
+use Rattle.feedtrace.proofs.Numerals.{signed_from-signed_decimal, unindented-signed_decimal}
+use Rattle.feedtrace.proofs.Numerals.{word_length-signed_decimal}
+use Rattle.feedtrace.specs.Fields.{first_as, first_number, first_signed}
+use Rattle.feedtrace.specs.Numerals.{most_number, signed_from}
+use Rattle.feedtrace.specs.WrittenLines.{SignedFits}
+
+-- where the word w stands first behind white space, and is read as x, x is given, and what follows w is left
+first_as-word : {A : Type 0} (read : List ℕ → Option A) (x : A) (w rest text : List ℕ)
+    → word_length w ≡ length w → word_length rest ≡ 0 → unindented text ≡ w ++ rest → read w ≡ Some x
+    → first_as read text ≡ Some (x, rest)
+first_as-word read x w rest text one_word ends stands reads =
+    let first : word (unindented text) ≡ w = ap word stands ∙ word-append w rest one_word ends in
+    let left : after_word (unindented text) ≡ rest =
+    ap after_word stands ∙ after_word-append w rest one_word ends in
+    rw (first, left, reads) refl
+
+-- where the number n stands first behind white space, it is read, and what follows it is left
+first_number-unindented : (n : ℕ) (text rest : List ℕ) → n ≤ most_number → word_length rest ≡ 0
+    → unindented text ≡ decimal n ++ rest → first_number text ≡ Some (n, rest)
+first_number-unindented n text rest small ends stands =
+    first_as-word (number_from most_number) n (decimal n) rest text (word_length-decimal n (omega arith)) ends
+    stands (number_from-numeral most_number n (decimal n) (omega arith) small (0, refl))
+
+-- the same where nothing stands in front
+pub first_number-decimal : (n : ℕ) (rest : List ℕ) → n ≤ most_number → word_length rest ≡ 0
+    → first_number (decimal n ++ rest) ≡ Some (n, rest)
+first_number-decimal n rest small ends =
+    first_number-unindented n (decimal n ++ rest) rest small ends (unindented-decimal n rest (omega arith))
+
+-- the same behind a space
+pub first_number-space : (n : ℕ) (rest : List ℕ) → n ≤ most_number → word_length rest ≡ 0
+    → first_number (codes " " ++ (decimal n ++ rest)) ≡ Some (n, rest)
+first_number-space n rest small ends =
+    first_number-unindented n (codes " " ++ (decimal n ++ rest)) rest small ends
+    (unindented-space (decimal n ++ rest) ∙ unindented-decimal n rest (omega arith))
+
+-- the same of the last number, behind a space
+pub first_number-last : (n : ℕ) → n ≤ most_number → first_number (codes " " ++ decimal n) ≡ Some (n, [])
+first_number-last n small =
+    ap (λ text. first_number (codes " " ++ text)) (sym (append-nil (decimal n)))
+    ∙ first_number-space n [] small refl
+
+-- the same of the last number with its sign
+pub first_signed-last : (z : ℤ) → SignedFits z → first_signed (codes " " ++ signed_decimal z) ≡ Some (z, [])
+first_signed-last z small =
+    let written = signed_decimal z in
+    first_as-word signed_from z written [] (codes " " ++ written) (word_length-signed_decimal z small) refl
+    (unindented-space written ∙ unindented-signed_decimal z small ∙ sym (append-nil written))
+    (signed_from-signed_decimal z small)
