@@ -14,6 +14,7 @@ pub mod Currents  -- what the session ends as, where its store is lent
 pub mod Tasks  -- what tasks answer, and what they leave
 pub mod Laying  -- what laying layers and withdrawing leave
 pub mod Loads  -- what the end of a table answers
+pub mod Outcomes  -- the text of what a task came to
 pub mod Does  -- what each task does
 pub mod Lines  -- what a line of a table answers
 pub mod Sessions  -- what a session answers to a line
