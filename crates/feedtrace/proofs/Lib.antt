@@ -2,4 +2,4 @@
 mod Keeping  -- what tables and layers keep
 mod Tasks  -- laws of tasks
 mod Laying  -- laws of changing a store
-mod Outcomes  -- laws of the lines of a list
+mod Outcomes  -- laws of writing the lines of a list

@@ -1,5 +1,6 @@
 -- The text of what a task came to, without the last line's end. Assumes nothing.
-use Rattle.std.specs.Prelude.{◌≡◌, ℕ, List, [], ◌∷◌, ◌++◌, length, Some, None, vec_items, codes, decimal, Option}
+use Rattle.std.specs.Prelude.{◌≡◌, ℕ, List, [], ◌∷◌, ◌++◌, length, Some, None, vec_items, codes, decimal}
+use Rattle.std.specs.Prelude.{Option}
 use Rattle.std.specs.List.{flat_map}
 use Rattle.std.specs.Fmt.{signed_decimal}
 use Rattle.triples.specs.Text.{triple_text}
@@ -24,7 +25,7 @@ listing_text text xs what = lines_text text xs ++ count_text xs what
 abbrev pub ShowsAs : {A : Type 0} → (A → Option (List ℕ)) → (A → List ℕ) → Type 0
 ShowsAs {A} shown text = (x : A) → shown x ≡ Some (text x)
 
--- the text of the outcome: one line, but a line for each triple that matches and each term reached
+-- the text of the outcome: one line, or the lines of what is listed and the count behind them
 abbrev pub outcome_text : Outcome → List ℕ
 outcome_text (outcome.Rows top triples) =
     codes "row store: top " ++ (decimal top ++ (codes ", " ++ (decimal triples ++ codes " triples")))
