@@ -2,6 +2,7 @@
 pub mod Numerals  -- numbers with a sign, as decimal digits
 pub mod Fields  -- what stands first in the rest of a line
 pub mod Verbs  -- what the first word of a line says
+pub mod Commands  -- the text of each command
 pub mod Forms  -- the forms of tasks
 pub mod Failures  -- what a task comes to, and a failure's line
 pub mod Eithers  -- what one of two things stands for
@@ -15,6 +16,7 @@ pub mod Currents  -- what the session ends as, where its store is lent
 pub mod Tasks  -- what tasks answer, and what they leave
 pub mod Laying  -- what laying layers and withdrawing leave
 pub mod Loads  -- what the end of a table answers
+pub mod Outcomes  -- the text of what a task came to
 pub mod Does  -- what each task does
 pub mod Lines  -- what a line of a table answers
 pub mod Sessions  -- what a session answers to a line

@@ -1,9 +1,15 @@
 //! What a task came to, as text.
+ghost use Rattle.std.specs.Prelude.{ℕ, List, Some};
+ghost use Rattle.std.specs.Fmt.{WritesOnOk};
+ghost use Rattle.feedtrace.specs.Outcomes.{ShowsAs, listing_text, outcome_text};
+
 use crate::outcome::Outcome;
 use std::fmt;
 use std::fmt::{Display, Formatter, Write};
 
 impl fmt::Display for Outcome {
+    ghost output = { λ o. Some (outcome_text o) };
+
     fn fmt<W: Write>(&self, f: &mut Formatter<W>) -> fmt::Result {
         match self {
             Outcome::Rows { top, triples } => write!(f, "row store: top {top}, {triples} triples"),
@@ -33,7 +39,10 @@ impl fmt::Display for Outcome {
 }
 
 /// Writes each item on a line of its own, and then how many there are and of what.
-fn put_lines<T: Display, W: Write>(items: &[T], what: &str, f: &mut Formatter<W>) -> fmt::Result {
+fn put_lines<T: Display, W: Write>(items: &[T], what: &str, f: &mut Formatter<W>) -> fmt::Result
+    ensures { (text : T → List ℕ) → ShowsAs T.output text
+        → WritesOnOk W.write_str_gives f.old result (listing_text text items.now what.now) f.new }
+{
     for item in items {
         writeln!(f, "{item}")?;
     }

@@ -1,5 +1,6 @@
 //! What the first word of a line says of tables and layers.
-ghost use Rattle.std.specs.Prelude.{◌≡◌};
+ghost use Rattle.std.specs.Prelude.{◌≡◌, Some};
+ghost use Rattle.feedtrace.specs.Commands.{form_text};
 ghost use Rattle.feedtrace.specs.Verbs.{verb_of};
 
 use std::fmt;
@@ -58,6 +59,8 @@ impl Verb {
 }
 
 impl fmt::Display for Verb {
+    ghost output = { λ verb. Some (form_text verb) };
+
     fn fmt<W: Write>(&self, f: &mut Formatter<W>) -> fmt::Result {
         f.write_str(match self {
             Verb::RowStore => "row-store T",
