@@ -1,5 +1,5 @@
 -- What a task comes to: its outcome, or why there is none; and a failure's line. Assumes nothing.
-use Rattle.std.specs.Prelude.{ℕ, List, Some, None, Err, Option, Result}
+use Rattle.std.specs.Prelude.{ℕ, List, ◌++◌, Err, Option, Result, codes}
 use Rattle.refusal.specs.declared.rejection.Rejection.{Rejection}
 use Rattle.console.specs.Answers.{refused_line}
 use Rattle.console.specs.declared.expected.Expected.TheVariants as shared
@@ -10,6 +10,7 @@ use Rattle.feedtrace.specs.declared.expected.Expected.TheVariants as expected
 use Rattle.feedtrace.specs.declared.failure.Failure.{Failure}
 use Rattle.feedtrace.specs.declared.failure.Failure.TheVariants as failure
 use Rattle.feedtrace.specs.declared.outcome.Outcome.{Outcome}
+use Rattle.feedtrace.specs.Errors.{expected_text}
 
 -- the outcome of a task, or why it is not carried out
 abbrev pub Carried : Type 0
@@ -36,8 +37,7 @@ abbrev pub failure_for : queries.Failure → Failure
 failure_for (query.Refused r) = failure.Refused r
 failure_for (query.Expected e) = failure.Expected (expected.Shared e)
 
--- the line of a failure: a refusal by its published number and its place; the words of an error are left
--- open
-abbrev pub failure_line : Failure → Option (List ℕ)
-failure_line (failure.Refused r) = Some (refused_line r)
-failure_line (failure.Expected e) = None
+-- the line of a failure: a refusal by its published number and its place, an error by what was expected
+abbrev pub failure_line : Failure → List ℕ
+failure_line (failure.Refused r) = refused_line r
+failure_line (failure.Expected e) = codes "error: expected " ++ expected_text e

@@ -3,6 +3,7 @@ pub mod Numerals  -- numbers with a sign, as decimal digits
 pub mod Fields  -- what stands first in the rest of a line
 pub mod Verbs  -- what the first word of a line says
 pub mod Commands  -- the text of each command
+pub mod Errors  -- the text of what was expected
 pub mod Forms  -- the forms of tasks
 pub mod Failures  -- what a task comes to, and a failure's line
 pub mod Eithers  -- what one of two things stands for

@@ -1,5 +1,6 @@
 //! What is expected where a line cannot be carried out.
-ghost use Rattle.std.specs.Prelude.{◌≡◌};
+ghost use Rattle.std.specs.Prelude.{◌≡◌, Some};
+ghost use Rattle.feedtrace.specs.Errors.{expected_text};
 ghost use Rattle.feedtrace.specs.Failures.{memory};
 ghost use Rattle.feedtrace.specs.declared.expected.Expected.TheVariants as expected;
 
@@ -48,6 +49,8 @@ impl<T: Drop> From<AllocFailed<T>> for Expected {
 }
 
 impl fmt::Display for Expected {
+    ghost output = { λ e. Some (expected_text e) };
+
     fn fmt<W: Write>(&self, f: &mut Formatter<W>) -> fmt::Result {
         match self {
             Expected::Shared(Shared::Command) => f.write_str(COMMANDS),

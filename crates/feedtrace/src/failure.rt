@@ -1,5 +1,5 @@
 //! Why a line has no answer.
-ghost use Rattle.std.specs.Prelude.{◌≡◌};
+ghost use Rattle.std.specs.Prelude.{◌≡◌, Some};
 ghost use Rattle.feedtrace.specs.Failures.{failure_for, failure_line, memory};
 ghost use Rattle.feedtrace.specs.declared.failure.Failure.TheVariants as failure;
 
@@ -66,7 +66,7 @@ impl From<QueryFailure> for Failure {
 }
 
 impl fmt::Display for Failure {
-    ghost output = { failure_line };
+    ghost output = { λ e. Some (failure_line e) };
 
     fn fmt<W: Write>(&self, f: &mut Formatter<W>) -> fmt::Result {
         match self {

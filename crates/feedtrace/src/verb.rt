@@ -67,7 +67,7 @@ impl fmt::Display for Verb {
             Verb::PropertyStore => "property-store T",
             Verb::Catalogue => "catalogue inline, or catalogue listed",
             Verb::Inverse => "inverse P Q",
-            Verb::Withdrawn => "withdrawn",
+            Verb::Withdrawn => "withdrawn alone",
             Verb::Withdraw => "withdraw S P O",
             Verb::Restore => "restore S P O",
             Verb::Seek => "seek A B C from S P O",
