@@ -1,5 +1,5 @@
-//! What the console does with queries: the words and numbers of a line, the commands, the session that carries
-//! them out, and its answers.
+//! What the console does with queries: the words and numbers of a line, the commands, the session that
+//! carries them out, and its answers.
 #![tactic(auto)]
 
 pub mod answer;
