@@ -1,15 +1,16 @@
 #!/usr/bin/env python3
 """Tables, layers and questions for the console, with the answers that the rules give.
 
-Makes small tables by chance, each triple list once as a row store and once as a property store, lays one layering
-over each (none, inverse, withdrawn, or withdrawn over inverse), and asks seek and leap at every selector shape.
-The answers come from plain sets of triples and loops over all of them, and from nothing of the console.
+Makes small tables by chance, each list of triples once as a row store and once as a property store, lays
+one layering over each (none, inverse, withdrawn, or withdrawn over inverse), and asks seek and leap at every
+selector shape. The answers come from plain sets of triples and loops over all of them, and from nothing of
+the console.
 
-It keeps count of what was asked. For each kind of table under each layering, seek must have been asked at each of
-the 8 selector shapes, and leap at each position with each shape of the other two; and there at each place of the
-start, at the bound, and at each place of the selector that is not free, a number that is 0 (in a selector 0 is a
-free place), one that is over the top, and the last of 32 bits. A layering counts only where each of its layers adds
-or takes a triple. Where a number is still missing, it is put in now and then.
+It keeps count of what was asked. For each kind of table under each layering, seek must have been asked at
+each of the 8 selector shapes, and leap at each position with each shape of the other two; and there, at each
+place of the start, at the bound, and at each place of the selector that is not free, a number that is 0 (in a
+selector 0 is a free place), one that is over the top, and the last of 32 bits. A layering counts only where
+each of its layers adds or takes a triple. Where a number is still missing, it is put in now and then.
 
     cases.py commands      the commands, one a line
     cases.py answers       the answer lines
@@ -312,7 +313,7 @@ def lay_withdrawn(random, talk, top, below):
 
 
 def layer(random, talk, kind, top, triples):
-    """Lays one layering by chance; what is then current. It counts where each layer adds or takes a triple."""
+    """Lays one layering by chance; what is then current. It counts where each layer changes what is there."""
     layers, counts, there = [], True, set(triples)
     for name, lay in (("inverse", lay_inverse), ("withdrawn", lay_withdrawn)):
         then = lay(random, talk, top, there) if random.random() < 0.6 else None
@@ -421,7 +422,8 @@ def difference(got, wanted):
 class Long(Talk):
     """Tables of a million, with a blank line or a remark before each tenth line, and what is said on the way.
 
-    So the millionth line behind the command is none of the list, and one stands behind its hundred thousandth.
+    So the millionth line behind the command is none of the list, and neither is the one behind the list's
+    hundred thousandth.
     """
 
     BETWEEN = ("", "# A remark.", "   ")
