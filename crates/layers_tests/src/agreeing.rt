@@ -1,8 +1,8 @@
-//! Two stores that answer the same, whatever is asked.
+//! Whether a store answers as a plain list does, whatever is asked.
 use std::test::Fail;
 use store_cases::numbers::{NUMBERS, selector_of, triple_of};
+use store_cases::plain::{least, smallest};
 use triples::position::Position;
-use triples::selector::Selector;
 use triples::store::Store;
 
 // Kept beside its twin in `triples_tests`: a public one would need a contract over each call of the closure.
@@ -20,17 +20,16 @@ fn each_three<F: FnMut((u32, u32, u32)) -> Result<(), Fail>>(mut ask: F) -> Resu
     Ok(())
 }
 
-// Kept as two arguments: a struct would hold two `&mut` under a lifetime, for three short functions.
-/// Fails under the name, unless both find the same triple, from every start.
-fn seeks_agree<A: Store, B: Store>(
+/// Fails under the name, unless seek finds the least triple of the list, from every start.
+fn seeks_agree<S: Store>(
     name: &str,
-    one: &mut A,
-    other: &mut B,
-    selector: Selector,
+    store: &mut S,
+    list: &[(u32, u32, u32)],
+    selector: (u32, u32, u32),
 ) -> Result<(), Fail> {
     each_three(|start| {
-        let start = triple_of(start);
-        if one.seek(selector, start) == other.seek(selector, start) {
+        let found = store.seek(selector_of(selector), triple_of(start));
+        if found == least(list, selector, start).map(triple_of) {
             Ok(())
         } else {
             Err(Fail::new(format_args!("seek: {name}")))
@@ -38,34 +37,38 @@ fn seeks_agree<A: Store, B: Store>(
     })
 }
 
-// Kept beside its twin in `triples_tests`: that one asks a plain list, and this a second store.
-/// Whether both leap to the same number, at every position and from every bound.
-fn leaps_agree<A: Store, B: Store>(one: &mut A, other: &mut B, selector: Selector) -> bool {
+/// Whether leap finds the smallest number of the list, at every position and from every bound.
+fn leaps_agree<S: Store>(
+    store: &mut S,
+    list: &[(u32, u32, u32)],
+    selector: (u32, u32, u32),
+) -> bool {
     [Position::Subject, Position::Property, Position::Object]
         .into_iter()
         .all(|position| {
             NUMBERS.into_iter().all(|bound| {
-                one.leap(position, selector, bound) == other.leap(position, selector, bound)
+                let found = store.leap(position, selector_of(selector), bound);
+                found == smallest(list, position, selector, bound)
             })
         })
 }
 
-// Kept beside `agrees` of `triples_tests`: that one compares with a plain list, which is no store.
-/// Fails under the name, unless both answer the same for every selector and have the same top.
-pub(crate) fn agree<A: Store, B: Store>(
+// Kept beside `agrees` of `triples_tests`: that one asks of one list only, and needs no name.
+/// Fails under the name, unless seek and leap answer as going over the list does for every selector, and the
+/// top is 5.
+pub(crate) fn agree<S: Store>(
     name: &str,
-    one: &mut A,
-    other: &mut B,
+    store: &mut S,
+    list: &[(u32, u32, u32)],
 ) -> Result<(), Fail> {
-    each_three(|entries| {
-        let selector = selector_of(entries);
-        seeks_agree(name, one, other, selector)?;
-        if !leaps_agree(one, other, selector) {
+    each_three(|selector| {
+        seeks_agree(name, store, list, selector)?;
+        if !leaps_agree(store, list, selector) {
             return Err(Fail::new(format_args!("leap: {name}")));
         }
         Ok(())
     })?;
-    if one.top() != other.top() {
+    if store.top() != 5 {
         return Err(Fail::new(format_args!("top: {name}")));
     }
     Ok(())

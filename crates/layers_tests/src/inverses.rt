@@ -1,5 +1,6 @@
 //! The inverse of a property: when it is refused, which triples come with it, and in which order.
 use crate::agreeing::agree;
+use crate::plain::with_inverse;
 use crate::stores::{property_store, row_store};
 use layers::inverse::Inverse;
 use std::test::Fail;
@@ -127,7 +128,7 @@ fn a_property_that_is_no_term_is_refused_and_the_store_comes_back(
         };
         assert_eq!(rt; said(declined.rejection), (25, 0), "{}", name);
         let mut given = declined.given;
-        agree(name, &mut given, &mut row_store(rt.alloc(), &LIST)?)?;
+        agree(name, &mut given, &LIST)?;
     }
     Ok(())
 }
@@ -138,7 +139,9 @@ fn the_turned_triples_come_with_those_below(rt: HostRuntime) -> Result<(), Fail>
         let Ok(mut store) = Inverse::new(property_store(rt.alloc())?, property, inverse) else {
             return Err(Fail::new(name));
         };
-        agree(name, &mut store, &mut row_store(rt.alloc(), list)?)?;
+        agree(name, &mut store, list)?;
+        let worked_out = with_inverse(rt.alloc(), &LIST, property, inverse)?;
+        agree(name, &mut store, worked_out.as_slice())?;
     }
     Ok(())
 }

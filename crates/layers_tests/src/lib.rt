@@ -6,6 +6,8 @@ mod agreeing;
 #[cfg(test)]
 mod inverses;
 #[cfg(test)]
+mod plain;
+#[cfg(test)]
 mod stacks;
 #[cfg(test)]
 mod stores;

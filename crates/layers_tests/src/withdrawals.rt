@@ -1,5 +1,6 @@
 //! Withdrawing and restoring: the refusals in their order, the count, and what is left.
 use crate::agreeing::agree;
+use crate::plain::without;
 use crate::stores::row_store;
 use layers::withdrawn::Withdrawn;
 use std::alloc::Global;
@@ -160,6 +161,76 @@ const RESTS: [((u32, u32, u32), &[(u32, u32, u32)]); 6] = [
     ((2, 2, 3), &[]),
 ];
 
+/// Triples that are withdrawn.
+const GONE: [(u32, u32, u32); 3] = [(1, 4, 5), (2, 4, 1), (5, 2, 1)];
+
+/// With these withdrawn: calls one after the other, that end where they began.
+const AFTER_QUESTIONS: [Step; 9] = [
+    Step {
+        name: "withdrawn still",
+        call: Call::Withdraw,
+        triple: (1, 4, 5),
+        refused: Some((21, 0)),
+        count: 3,
+    },
+    Step {
+        name: "the last of them still",
+        call: Call::Withdraw,
+        triple: (5, 2, 1),
+        refused: Some((21, 0)),
+        count: 3,
+    },
+    Step {
+        name: "one that was never withdrawn",
+        call: Call::Restore,
+        triple: (2, 2, 3),
+        refused: Some((24, 0)),
+        count: 3,
+    },
+    Step {
+        name: "back",
+        call: Call::Restore,
+        triple: (2, 4, 1),
+        refused: None,
+        count: 2,
+    },
+    Step {
+        name: "back only once",
+        call: Call::Restore,
+        triple: (2, 4, 1),
+        refused: Some((24, 0)),
+        count: 2,
+    },
+    Step {
+        name: "the first back",
+        call: Call::Restore,
+        triple: (1, 4, 5),
+        refused: None,
+        count: 1,
+    },
+    Step {
+        name: "the first back only once",
+        call: Call::Restore,
+        triple: (1, 4, 5),
+        refused: Some((24, 0)),
+        count: 1,
+    },
+    Step {
+        name: "withdrawn again",
+        call: Call::Withdraw,
+        triple: (2, 4, 1),
+        refused: None,
+        count: 2,
+    },
+    Step {
+        name: "the first withdrawn again",
+        call: Call::Withdraw,
+        triple: (1, 4, 5),
+        refused: None,
+        count: 3,
+    },
+];
+
 /// With 256 withdrawn of the subjects 1 to 257: calls one after the other.
 const WHEN_FULL: [Step; 8] = [
     Step {
@@ -250,13 +321,26 @@ fn calls_answer_as_the_table_says_and_change_no_more_than_that(
     let mut store = Withdrawn::new(row_store(rt.alloc(), &LIST)?);
     assert_eq!(rt; store.count(), 0);
     steps_hold(&mut store, &STEPS)?;
-    agree("left", &mut store, &mut row_store(rt.alloc(), &LEFT)?)?;
-    agree(
-        "the store below",
-        &mut store.into_below(),
-        &mut row_store(rt.alloc(), &LIST)?,
-    )?;
-    Ok(())
+    agree("left", &mut store, &LEFT)?;
+    let mut table = store.into_below();
+    assert_eq!(rt; table.len(), LIST.len());
+    agree("the store below", &mut table, &LIST)
+}
+
+#[test]
+fn what_is_withdrawn_stays_so_after_many_questions(rt: HostRuntime) -> Result<(), Fail> {
+    let mut store = Withdrawn::new(row_store(rt.alloc(), &LIST)?);
+    for triple in GONE {
+        assert_eq!(rt; store.withdraw(triple_of(triple)), Ok(()));
+    }
+    let left = without(rt.alloc(), &LIST, &GONE)?;
+    agree("withdrawn", &mut store, left.as_slice())?;
+    steps_hold(&mut store, &AFTER_QUESTIONS)?;
+    agree("withdrawn again", &mut store, left.as_slice())?;
+    assert_eq!(rt; store.count(), GONE.len());
+    let mut table = store.into_below();
+    assert_eq!(rt; table.len(), LIST.len());
+    agree("the store below", &mut table, &LIST)
 }
 
 #[test]
@@ -264,7 +348,7 @@ fn seek_and_leap_pass_over_what_is_withdrawn(rt: HostRuntime) -> Result<(), Fail
     let mut store = Withdrawn::new(row_store(rt.alloc(), &LIST)?);
     for (triple, rest) in RESTS {
         assert_eq!(rt; store.withdraw(triple_of(triple)), Ok(()));
-        agree("the rest", &mut store, &mut row_store(rt.alloc(), rest)?)?;
+        agree("the rest", &mut store, rest)?;
     }
     assert_eq!(rt; store.count(), 6);
     Ok(())

@@ -1,9 +1,9 @@
 //! Seek and leap of each kind of store, against the whole list, gone over plainly, and against a table.
 use crate::bare::Bare;
-use crate::plain::{least, smallest};
 use std::test::Fail;
 use store_cases::lists::{DIRECTORY, LIST, PAIRS, rows, table};
 use store_cases::numbers::{NUMBERS, selector_of, triple_of};
+use store_cases::plain::{least, smallest};
 use triples::position::Position;
 use triples::property_store::PropertyStore;
 use triples::row_store::RowStore;
@@ -112,7 +112,7 @@ fn seeks_agree<S: Store>(store: &mut S, selector: (u32, u32, u32)) -> Result<(),
     })
 }
 
-// Kept beside its twin in `layers_tests`: that one asks a second store, and this a plain list.
+// Kept beside its twin in `layers_tests`, which takes the list.
 /// Whether leap answers as the plain list does, at every position and from every bound.
 fn leaps_agree<S: Store>(store: &mut S, selector: (u32, u32, u32)) -> bool {
     [Position::Subject, Position::Property, Position::Object]

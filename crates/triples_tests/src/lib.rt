@@ -8,8 +8,6 @@ mod bare;
 #[cfg(test)]
 mod limits;
 #[cfg(test)]
-mod plain;
-#[cfg(test)]
 mod row_loading;
 #[cfg(test)]
 mod table_loading;

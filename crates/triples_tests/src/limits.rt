@@ -1,11 +1,13 @@
 //! Lists at their longest, and one longer.
 use std::alloc::{AllocError, Global};
 use std::test::Fail;
-use store_cases::numbers::said;
+use store_cases::numbers::{said, selector_of, triple_of};
 use triples::entry::DirectoryEntry;
 use triples::pair::Pair;
+use triples::position::Position;
 use triples::property_store::{PropertyStore, PropertyTable};
 use triples::row_store::RowStore;
+use triples::store::Store;
 use triples::triple::{ORIGIN, Triple};
 
 /// Entries of the properties from 1 on, all empty.
@@ -23,6 +25,13 @@ fn ascending_rows(heap: Global, count: u32) -> Result<Vec<Triple>, AllocError> {
             property: 1,
             object: 1,
         })
+        .collect(heap)
+}
+
+/// Pairs of the subjects from 1 on.
+fn ascending_pairs(heap: Global, count: u32) -> Result<Vec<Pair>, AllocError> {
+    (1..=count)
+        .map(|subject| Pair { subject, object: 1 })
         .collect(heap)
 }
 
@@ -72,6 +81,26 @@ fn a_million_pairs_are_within_the_limit_and_one_more_is_not(rt: HostRuntime) -> 
         };
         assert_eq!(rt; said(declined.rejection), (number, 0));
         assert_eq!(rt; declined.given.pairs.len(), count);
+    }
+    Ok(())
+}
+
+#[test]
+fn a_million_pairs_are_taken_under_one_entry_and_under_4096(rt: HostRuntime) -> Result<(), Fail> {
+    let every = selector_of((0, 0, 0));
+    for entries in [1, 4096] {
+        let directory = empty_entries(rt.alloc(), entries)?;
+        let pairs = ascending_pairs(rt.alloc(), 1_000_000)?;
+        let Ok(mut store) = PropertyStore::load(1_000_000, PropertyTable { directory, pairs })
+        else {
+            return Err(Fail::new("a million pairs were refused"));
+        };
+        // all entries begin at 0, so the last one has the pairs
+        let last = triple_of((1_000_000, entries, 1));
+        assert_eq!(rt; store.len(), 1_000_000);
+        assert_eq!(rt; store.seek(every, ORIGIN), Some(triple_of((1, entries, 1))));
+        assert_eq!(rt; store.seek(every, last), Some(last));
+        assert_eq!(rt; store.leap(Position::Subject, every, 1_000_001), None);
     }
     Ok(())
 }

@@ -1,0 +1,2 @@
+-- Read in this order.
+pub mod Folds  -- the least of a list, found one by one
