@@ -40,6 +40,7 @@ MILLION = 1000000
 SECONDS = 20
 HERE = os.path.dirname(os.path.abspath(__file__))
 CONSOLE = os.path.join(HERE, "..", "..", "crates", "feedtrace")
+EXAMPLE = os.path.join(HERE, "..", "..", "examples", "recall")
 
 
 def matches(selector, triple):
@@ -380,6 +381,8 @@ def cases(seed, count):
             once = sum(not rows[i - 1] < rows[i] for i in range(1, len(rows))) < 2
             if fault and (fault[0] != 4 or once):
                 talk.rows(top, rows)
+    talk.line("row-store 1")
+    talk.say("1 1 1", "error: expected end")
     return talk
 
 
@@ -388,17 +391,24 @@ def lines(texts):
 
 
 def check(talk):
-    """Whether the stored session ends with the commands and the answers, and everything was asked."""
+    """Whether the stored session ends with the commands and the answers, and everything was asked.
+
+    The example is to stand in the session too, so that it is run.
+    """
     with open(os.path.join(CONSOLE, "stdin")) as file:
-        asked = file.read().partition(REMARK)[2] == lines(talk.commands)
+        session = file.read()
+    asked = session.partition(REMARK)[2] == lines(talk.commands)
+    with open(EXAMPLE) as file:
+        shown = file.read() in session
     with open(os.path.join(CONSOLE, "stdout")) as file:
         answered = file.read().endswith(lines(talk.answers))
     print("the stored session ends with the commands:", asked, "and with the answers:", answered)
+    print("it has the example:", shown)
     missing = list(talk.missing.lines())
     for line in missing:
         print(line)
     print(f"{len(missing)} of {len(Missing().left)} numbers at their places are missing")
-    return asked and answered and not missing
+    return asked and answered and shown and not missing
 
 
 def run(program, talk, about):

@@ -232,7 +232,7 @@ const AFTER_QUESTIONS: [Step; 9] = [
 ];
 
 /// With 256 withdrawn of the subjects 1 to 257: calls one after the other.
-const WHEN_FULL: [Step; 8] = [
+const WHEN_FULL: [Step; 11] = [
     Step {
         name: "withdrawn already",
         call: Call::Withdraw,
@@ -263,6 +263,27 @@ const WHEN_FULL: [Step; 8] = [
     },
     Step {
         name: "the first back",
+        call: Call::Restore,
+        triple: (1, 1, 1),
+        refused: None,
+        count: 255,
+    },
+    Step {
+        name: "the first away again",
+        call: Call::Withdraw,
+        triple: (1, 1, 1),
+        refused: None,
+        count: 256,
+    },
+    Step {
+        name: "no room beside it",
+        call: Call::Withdraw,
+        triple: (257, 1, 1),
+        refused: Some((23, 0)),
+        count: 256,
+    },
+    Step {
+        name: "the first back again",
         call: Call::Restore,
         triple: (1, 1, 1),
         refused: None,
