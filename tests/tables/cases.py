@@ -66,7 +66,7 @@ def trace(triples, term):
 
 
 def row_fault(top, rows):
-    """The refusal of a row table, or none. Each table here falls at most once."""
+    """The refusal of a row table, or none; by 4 at the first row that is not above the one before it."""
     if top > MILLION or len(rows) > MILLION:
         return 1, 0
     for i, row in enumerate(rows):

@@ -1,6 +1,9 @@
 //! The state of the console between two lines, and one step of it, from a line to its answer.
 ghost use Rattle.std.specs.Prelude.{◌≡◌, None};
 ghost use Rattle.console.specs.Sessions.{current};
+ghost use Rattle.catalogue.specs.Inlining.{inlined};
+ghost use Rattle.feedtrace.specs.Books.{book_entries};
+ghost use Rattle.feedtrace.specs.Does.{pending};
 ghost use Rattle.feedtrace.specs.Sessions.{Answered};
 
 use crate::answer::Answer;
@@ -25,9 +28,12 @@ pub(crate) struct Session {
 }
 
 impl Session {
-    /// A session in which nothing is current.
+    /// A session in which there is no query and no store, the catalogue is inline, and no table is being read.
     pub(crate) fn new() -> Session
-        ensures { current result.queries ≡ None }
+        ensures query { current result.queries ≡ None }
+        ensures store { result.store ≡ None }
+        ensures catalogue { book_entries result.book ≡ inlined }
+        ensures table { pending result ≡ None }
     {
         Session {
             queries: Queries::new(),

@@ -69,7 +69,6 @@ impl Session {
     fn end(&mut self, table: Loading) -> Result<Outcome, Failure>
         ensures { Ended (pending_of table) self.old result self.new }
     {
-        let Loading { lists, lines: _ } = table;
-        self.load(lists?)
+        self.load(table.lists?)
     }
 }
