@@ -24,6 +24,10 @@ impl Catalogue for Inline {
 
     ghost proper = { λ _ n. inlined_proper n };
 
+    ghost Kept = { Self };
+
+    ghost kept = { λ c. c };
+
     fn lookup(&mut self, number: u32) -> (Kind, i32) {
         if (FIRST_INTEGER..=LAST_INTEGER).contains(&number) {
             (Kind::Integer, number as i32 - ZERO_AT)

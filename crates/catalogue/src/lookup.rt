@@ -11,6 +11,10 @@ impl Catalogue for Listed {
 
     ghost proper = { λ c n. listed_proper c.records.items n };
 
+    ghost Kept = { Self };
+
+    ghost kept = { λ c. c };
+
     fn lookup(&mut self, number: u32) -> (Kind, i32) {
         number
             .checked_sub(1)

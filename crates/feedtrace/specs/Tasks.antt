@@ -48,16 +48,9 @@ TraceAnswer term m r =
     ((v : Vec ℕ Global) × ((r ≡ Ok (outcome.Terms v)) × Traced m.has term (vec_items v)))
     ⊎ (r ≡ lacks memory)
 
--- t has the queries, the store and the table of s, and a catalogue that says what that of s says
-pub record SaysTheSame (s t : Session) : Type 0 where
-  pub queries : t.queries ≡ s.queries
-  pub store : t.store ≡ s.store
-  pub book : book_entries t.book ≡ book_entries s.book
-  pub loading : t.loading ≡ s.loading
-
--- the entry of the number in the catalogue of s
+-- the entry of the number in the catalogue of s; all is as it was
 abbrev pub Looked : ℕ → Session → Outcome → Session → Type 0
 Looked number s r t =
-    SaysTheSame s t × ((k : Kind)
+    (t ≡ s) × ((k : Kind)
     × ((v : ℤ) ×
     ((r ≡ outcome.Entry k v) × ((k, v) ≡ told (book_entries s.book number)))))

@@ -56,6 +56,10 @@ impl<A: Catalogue, B: Catalogue> Catalogue for Either<A, B> {
     ghost proper = { λ s n. either_keeps (λ entries. Proper (entries n)) A.Catalogue.entries
         B.Catalogue.entries (λ a. A.Catalogue.proper a n) (λ b. B.Catalogue.proper b n) s };
 
+    ghost Kept = { KeptOf A.Catalogue.Kept B.Catalogue.Kept };
+
+    ghost kept = { either_kept A.Catalogue.kept B.Catalogue.kept };
+
     fn lookup(&mut self, number: u32) -> (Kind, i32) {
         match self {
             Either::Left(catalogue) => catalogue.lookup(number),

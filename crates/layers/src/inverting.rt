@@ -12,7 +12,8 @@ use triples::store::{Store, is_term};
 impl<S: Store> Inverse<S> {
     // Kept as two numbers: a `Turn` holds only what is no 0, and this is where they are tested.
     /// The store with the inverse of the property; the two may be the same. Refused with 25, with no place,
-    /// where one of them is 0 or over the top; the store then comes back, and stands for what it stood for.
+    /// where one of them is 0 or over the top; the store then comes back. Below the layer, or given back, it
+    /// means and keeps what it did.
     pub fn new(mut below: S, property: u32, inverse: u32) -> Result<Inverse<S>, Declined<S>>
         ensures { Inverted S.Store.meaning S.Store.kept below property inverse result }
     {

@@ -17,9 +17,9 @@ use Rattle.triples.proofs.Ranks.{before_behind, before_behind_upto, same_from_be
 use Rattle.triples.proofs.Selectors.{origin_reached}
 use Rattle.triples.proofs.Seeks.{origin}
 use Rattle.trace.specs.Levels.{From, Visited, Level}
-use Rattle.trace.specs.Marks.{Noted, Gathered}
+use Rattle.trace.specs.Marks.{Gathered}
 use Rattle.trace.specs.Steps.{Step}
-use Rattle.trace.proofs.Marks.{gathered_like, gathered_more, gathered_shuffled}
+use Rattle.trace.proofs.Marks.{Noted, gathered_like, gathered_more, gathered_shuffled}
 
 -- subjects
 

@@ -12,10 +12,17 @@ use Rattle.std.proofs.lemmas.Bool.{cases_Bool, cases_eq, both_ways, cond-true, c
 use Rattle.std.proofs.lemmas.Bool.Decides.{nat_tests}
 use Rattle.std.specs.List.{ContainsAt as Has, AllByRecursion}
 use Rattle.std.specs.List.Sorted.{IsPermutation}
-use Rattle.trace.specs.Marks.{marked, unmarked, Noted, Gathered}
+use Rattle.std.specs.Prelude.{slice_set}
+use Rattle.trace.specs.Marks.{marked, unmarked, Gathered}
 use Rattle.trace.proofs.Lists.{count_none}
 
 -- marks
+
+-- after is marks with y marked, and more is found with y behind it unless y was marked before
+pub record Noted (y : ℕ) (marks : List Bool) (found : List ℕ) (after : List Bool) (more : List ℕ)
+    : Type 0 where
+  pub mark : after ≡ slice_set marks y true
+  pub list : more ≡ cond (marked marks y) found (found ++ y ∷ [])
 
 pub marked_none : (n y : ℕ) → marked (replicate n false) y ≡ false
 marked_none n y =

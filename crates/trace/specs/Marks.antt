@@ -1,6 +1,6 @@
 -- Numbers that are gathered into a list, each once, with a mark at each number met. Assumes nothing.
-use Rattle.std.specs.Prelude.{◌≡◌, ℕ, ◌+◌, ◌≤◌, Bool, true, false, cond, not, ◌⊎◌, List, [], ◌∷◌, ◌++◌}
-use Rattle.std.specs.Prelude.{length, count_by, nat_eq, slice_index_or, slice_set}
+use Rattle.std.specs.Prelude.{◌≡◌, ℕ, ◌+◌, ◌≤◌, Bool, true, false, not, ◌⊎◌, List}
+use Rattle.std.specs.Prelude.{length, count_by, nat_eq, slice_index_or}
 use Rattle.std.specs.List.{ContainsAt as Has, AllByRecursion}
 
 -- whether y is marked; a number past the end of the marks is not
@@ -10,12 +10,6 @@ marked marks y = slice_index_or marks y false
 -- how many places of the marks hold none
 abbrev pub unmarked : List Bool → ℕ
 unmarked marks = count_by not marks
-
--- after is marks with y marked, and more is found with y behind it unless y was marked before
-pub record Noted (y : ℕ) (marks : List Bool) (found : List ℕ) (after : List Bool) (more : List ℕ)
-    : Type 0 where
-  pub mark : after ≡ slice_set marks y true
-  pub list : more ≡ cond (marked marks y) found (found ++ y ∷ [])
 
 -- P holds of y, old does not mark it, and new does
 pub record Gain (P : ℕ → Type 0) (old new : List Bool) (y : ℕ) : Type 0 where

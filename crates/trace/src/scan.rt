@@ -10,7 +10,7 @@ use triples::triple::{ORIGIN, Triple};
 
 // Kept as a clause: a store may move things about when asked; no invariant tells what it meant before.
 /// The triples of the store that match the selector, each once, ascending; none where none matches. An error
-/// where memory is wanting. The store's meaning stays as it is.
+/// where memory is wanting. The store means and keeps what it did.
 pub fn scan<S: Store>(
     heap: Global,
     store: &mut S,

@@ -10,7 +10,7 @@ use triples::store::Store;
 /// The terms that `term` reaches by one step or more, where a step goes from the subject of a triple to its
 /// object: each once, those first that fewer steps lead to, ascending where as many do. The term itself is
 /// among them only where a cycle leads back to it; a number that is no subject reaches nothing. An error
-/// where memory is wanting. The store's meaning stays as it is.
+/// where memory is wanting. The store means and keeps what it did.
 pub fn trace<S: Store>(heap: Global, store: &mut S, term: u32) -> Result<Vec<u32>, AllocError>
     ensures answer { IfOk result (λ v. Traced (S.Store.meaning store.old).has term v.items) }
     ensures same { S.Store.meaning store.new ≡ S.Store.meaning store.old }

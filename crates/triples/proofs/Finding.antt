@@ -16,7 +16,8 @@ use Rattle.triples.specs.Selectors.{matches, floor, passed}
 use Rattle.triples.specs.Meaning.{among}
 use Rattle.triples.specs.Seeks.{Candidate, Sought}
 use Rattle.triples.specs.Tables.{Ordered}
-use Rattle.triples.specs.Finding.{Split, Passed, Silent, Met, later, reachable}
+use Rattle.triples.specs.Finding.{Split, Passed, later}
+use Rattle.triples.proofs.FirstMatches.{Silent, Met, reachable}
 use Rattle.triples.proofs.Lists.{first_of}
 use Rattle.triples.proofs.Selectors.{floor_reached, passed_none, passed_upto, passed_floor}
 use Rattle.triples.proofs.Meaning.{Place, among_place, at_among}

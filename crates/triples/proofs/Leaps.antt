@@ -18,7 +18,8 @@ use Rattle.triples.specs.Selectors.{matches, floor, passed}
 use Rattle.triples.specs.Meaning.{among}
 use Rattle.triples.specs.Seeks.{Leapt}
 use Rattle.triples.specs.Unions.{union, lesser}
-use Rattle.triples.specs.Finding.{Split, Passed, Silent, offer_of}
+use Rattle.triples.specs.Finding.{Split, Passed, offer_of}
+use Rattle.triples.proofs.FirstMatches.{Silent}
 use Rattle.triples.proofs.Order.{before_itself, same_is, same_itself}
 use Rattle.triples.proofs.Selectors.{floor_reached}
 use Rattle.triples.specs.Laws.{among-append}

@@ -6,6 +6,7 @@ pub mod Seeks  -- laws of seek and leap
 pub mod Ranks  -- the triple right behind another, and a rank that rises there
 pub mod Unions  -- two sets taken together
 pub mod Meaning  -- laws of being an element of a list
+pub mod FirstMatches  -- the first element that matches
 pub mod Finding  -- laws of searching an ordered list
 pub mod Joins  -- answers put together from those about parts
 pub mod Leaps  -- laws of leaping over an ordered list

@@ -175,5 +175,10 @@ fn a_leap_by_seeks_alone_answers_as_a_loop_over_the_list(rt: HostRuntime) -> Res
     let Ok(inner) = RowStore::load(5, rows(rt.alloc(), &LIST)?) else {
         return Err(Fail::new("refused"));
     };
-    agrees(&mut Bare { inner })
+    let mut store = Bare { inner, asked: 0 };
+    agrees(&mut store)?;
+    if store.asked == 0 {
+        return Err(Fail::new("it was never asked"));
+    }
+    Ok(())
 }

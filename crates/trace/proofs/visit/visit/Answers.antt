@@ -1,6 +1,5 @@
 -- Each object is noted, one met before only by its mark.
-use Rattle.trace.proofs.Marks.{noted_met, noted_new}
-use Rattle.trace.specs.Marks.{Noted}
+use Rattle.trace.proofs.Marks.{Noted, noted_met, noted_new}
 use Rattle.std.proofs.Common.{◌≡◌, ℕ, Bool, List, vec_items, sym, refl, ◌∙◌, subst, arith, rules}
 use Rattle.triples.specs.declared.triple.Triple.{Triple}
 use Rattle.triples.specs.Seeks.{Least}
