@@ -28,7 +28,8 @@ pub(crate) struct Session {
 }
 
 impl Session {
-    /// A session in which there is no query and no store, the catalogue is inline, and no table is being read.
+    /// A session in which there is no query and no store, the catalogue is inline, and no table is being
+    /// read.
     pub(crate) fn new() -> Session
         ensures query { current result.queries ≡ None }
         ensures store { result.store ≡ None }

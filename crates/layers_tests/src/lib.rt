@@ -1,4 +1,5 @@
-//! Tests of layers over stores, as tables: what is expected comes from the rules, by hand or by loops over lists.
+//! Tests of layers over stores, as tables: what is expected comes from the rules, by hand or by loops over
+//! lists.
 #![tactic(auto)]
 
 #[cfg(test)]

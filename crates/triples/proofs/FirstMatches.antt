@@ -1,6 +1,6 @@
 -- The first element of a list that matches, from a place on. Assumes nothing.
-use Rattle.std.specs.Prelude.{◌≡◌, ℕ, ◌<◌, ◌≤◌, true, false, not, List, map, length, drop, Option, MatchOption}
-use Rattle.std.specs.Prelude.{slice_index_or, take_while}
+use Rattle.std.specs.Prelude.{◌≡◌, ℕ, ◌<◌, ◌≤◌, true, false, not, List, map, length, drop, Option}
+use Rattle.std.specs.Prelude.{MatchOption, slice_index_or, take_while}
 use Rattle.triples.specs.declared.selector.Selector.{Selector}
 use Rattle.triples.specs.declared.triple.Triple.{Triple}
 use Rattle.triples.specs.Selectors.{matches, passed}

@@ -10,7 +10,8 @@ pub(crate) struct Bare<S: Store> {
     pub(crate) asked: u64,
 }
 
-/// The triples of the inner store, whose leap is not asked. How often it was asked is no part of what is kept.
+/// The triples of the inner store, whose leap is not asked. How often it was asked is no part of what is
+/// kept.
 impl<S: Store> Store for Bare<S> {
     ghost meaning = { λ s. S.Store.meaning s.inner };
 
