@@ -1,7 +1,11 @@
 -- Laws of what stands first in the rest of a line. Assumes nothing.
 use Rattle.std.proofs.Common.{◌≡◌, ℕ, ◌≤◌, ◌++◌, codes, decimal, length, List, [], Some, Option, ℤ}
-use Rattle.std.proofs.Common.{arith, refl, sym, ap, ◌∙◌, append-nil}
+use Rattle.std.proofs.Common.{arith, refl, sym, ap, ◌∙◌, append-nil, append_assoc}
 use Rattle.std.specs.Fmt.{signed_decimal}
+use Rattle.triples.specs.declared.position.Position.{Position}
+use Rattle.triples.specs.declared.position.Position.TheVariants.{Subject, Property, Object}
+use Rattle.triples.specs.declared.triple.Triple.{Triple}
+use Rattle.triples.specs.Text.{triple_text}
 use Rattle.console.proofs.Decimals.{number_from-numeral}
 use Rattle.console.proofs.Words.{after_word-append, unindented-decimal, unindented-space, word-append}
 use Rattle.console.proofs.Words.{word_length-decimal}
@@ -9,9 +13,11 @@ use Rattle.console.specs.Numerals.{number_from}
 use Rattle.console.specs.Words.{after_word, unindented, word, word_length}
 use Rattle.feedtrace.proofs.Numerals.{signed_from-signed_decimal, unindented-signed_decimal}
 use Rattle.feedtrace.proofs.Numerals.{word_length-signed_decimal}
-use Rattle.feedtrace.specs.Fields.{first_as, first_number, first_signed}
+use Rattle.feedtrace.specs.Fields.{first_as, first_number, first_position, first_signed}
+use Rattle.feedtrace.specs.Fields.{first_triple, position_of}
 use Rattle.feedtrace.specs.Numerals.{most_number, signed_from}
-use Rattle.feedtrace.specs.WrittenLines.{SignedFits}
+use Rattle.feedtrace.specs.WrittenLines.{RowFits, SignedFits}
+use Rattle.feedtrace.specs.WrittenTasks.{position_text}
 
 -- where the word w stands first behind white space, and is read as x, x is given, and what follows w is left
 first_as-word : {A : Type 0} (read : List ℕ → Option A) (x : A) (w rest text : List ℕ)
@@ -56,3 +62,38 @@ first_signed-last z small =
     first_as-word signed_from z written [] (codes " " ++ written) (word_length-signed_decimal z small) refl
     (unindented-space written ∙ unindented-signed_decimal z small ∙ sym (append-nil written))
     (signed_from-signed_decimal z small)
+
+-- what stands behind a triple stands behind its last number
+triple_text-append : (t : Triple) (rest : List ℕ)
+    → triple_text t ++ rest
+    ≡ decimal t.subject ++ (codes " " ++ (decimal t.property ++ (codes " " ++ (decimal t.object ++ rest))))
+triple_text-append t rest =
+    let object = codes " " ++ decimal t.object in
+    append_assoc (decimal t.subject) (codes " " ++ (decimal t.property ++ object)) rest
+    ∙ ap (λ text. decimal t.subject ++ (codes " " ++ text)) (append_assoc (decimal t.property) object rest)
+
+-- the numbers of a triple behind a space are read as the triple
+pub first_triple-space : (t : Triple) (rest : List ℕ) → RowFits t → word_length rest ≡ 0
+    → first_triple (codes " " ++ (triple_text t ++ rest)) ≡ Some (t, rest)
+first_triple-space t rest small ends =
+    let last = codes " " ++ (decimal t.object ++ rest) in
+    let s = first_number-space t.subject (codes " " ++ (decimal t.property ++ last)) small.0 refl in
+    let p = first_number-space t.property last small.1 refl in
+    let o = first_number-space t.object rest small.2 ends in
+    ap (λ text. first_triple (codes " " ++ text)) (triple_text-append t rest) ∙ rw (s, p, o) refl
+
+-- the same of the last triple
+pub first_triple-last : (t : Triple) → RowFits t → first_triple (codes " " ++ triple_text t) ≡ Some (t, [])
+first_triple-last t small =
+    ap (λ text. first_triple (codes " " ++ text)) (sym (append-nil (triple_text t)))
+    ∙ first_triple-space t [] small refl
+
+-- the name of a position behind a space is read as the position
+pub first_position-space : (p : Position) (rest : List ℕ) → word_length rest ≡ 0
+    → first_position (codes " " ++ (position_text p ++ rest)) ≡ Some (p, rest)
+first_position-space Subject rest ends =
+    first_as-word position_of Subject (codes "subject") rest (codes " subject" ++ rest) refl ends refl refl
+first_position-space Property rest ends =
+    first_as-word position_of Property (codes "property") rest (codes " property" ++ rest) refl ends refl refl
+first_position-space Object rest ends =
+    first_as-word position_of Object (codes "object") rest (codes " object" ++ rest) refl ends refl refl

@@ -12,6 +12,7 @@ pub mod Layerings  -- what a table with its layers means
 pub mod Books  -- what a catalogue of either kind says
 pub mod TableLines  -- the lines of a table
 pub mod WrittenLines  -- lines that are written of an element
+pub mod WrittenTasks  -- commands that are written of a task
 pub mod Drafts  -- a table while its lines come in
 pub mod Currents  -- what the session ends as, where its store is lent
 pub mod Tasks  -- what tasks answer, and what they leave

@@ -41,6 +41,10 @@ abbrev pub SignedFits : ℤ → Type 0
 SignedFits (pos n) = n ≤ most_above
 SignedFits (negsuc n) = n < most_below
 
+-- if text is the number z with its sign as text, z is what is read of it
+abbrev pub SignedReadsBack : List ℕ → Option ℤ → Type 0
+SignedReadsBack text r = (z : ℤ) → SignedFits z → text ≡ signed_decimal z → r ≡ Some z
+
 -- the kind of e has 32 bits, and its value has 32 bits with its sign
 abbrev pub RecordFits : Record → Type 0
 RecordFits e = (e.kind ≤ most_number) × SignedFits e.value

@@ -3,6 +3,7 @@ ghost use Rattle.std.specs.Prelude.{◌≡◌};
 ghost use Rattle.feedtrace.specs.Fields.{Parted};
 ghost use Rattle.feedtrace.specs.Forms.{begins_table, catalogue_form, catalogue_of, inverse_form, leap_form};
 ghost use Rattle.feedtrace.specs.Forms.{seek_form, task_asked, task_fields, task_form};
+ghost use Rattle.feedtrace.specs.WrittenTasks.{TaskReadsBack};
 
 use crate::expected::Expected;
 use crate::field::Fields;
@@ -15,7 +16,8 @@ impl Task {
     /// The task that the text asks; none where its first word is no task's. An error where what follows the
     /// word has another form than the task's, and no table begins.
     pub(crate) fn parse(text: &[u8]) -> Result<Option<Task>, Expected>
-        ensures { result ≡ task_asked text.now }
+        ensures said { result ≡ task_asked text.now }
+        ensures law { TaskReadsBack text.now result }
     {
         let (word, rest) = split_word(text);
         let Some(verb) = Verb::of(word) else {

@@ -23,7 +23,7 @@ returns-in_ok-carry_out-in-Some c =
     let line = c.args.line.now in
     let outcome = c.in_ok-carry_out-in-Some.field-0 in
     let asks : task_asked (trimmed line) ≡ Ok (Some c.in-Some.task) =
-    ap task_asked (sym c.trim-text.ensures) ∙ sym c.parse.ensures ∙ c.in_ok-task.was
+    ap task_asked (sym c.trim-text.ensures) ∙ sym c.parse.ensures.said ∙ c.in_ok-task.was
     ∙ ap found c.in-Some.is in
     MatchOption-at_no c.args.self.now.loading
     (λ _. TableLine (trimmed line) c.args.self.now _ c.carry_out.new.self)
