@@ -351,6 +351,23 @@ def falls(directory, pairs):
     )
 
 
+def fill(talk):
+    """As many triples withdrawn as there is room for, and one more."""
+    rows = [(n, 1, 1) for n in range(1, 258)]
+    talk.rows(258, rows)
+    talk.say("withdrawn", "withdrawn: none")
+    for count, row in enumerate(rows[:-1], 1):
+        talk.say("withdraw %d %d %d" % row, f"withdrawn: {count}")
+    talk.say("withdraw 257 1 1", "refused 23 at 0")
+    talk.say("withdraw 258 1 1", "refused 22 at 0")
+    talk.say("withdraw 1 1 1", "refused 21 at 0")
+    talk.say("restore 257 1 1", "refused 24 at 0")
+    talk.say("restore 1 1 1", "withdrawn: 255")
+    talk.say("withdraw 1 1 1", "withdrawn: 256")
+    talk.say("withdraw 257 1 1", "refused 23 at 0")
+    talk.say("scan 0 0 0", "257 1 1", "1 triples")
+
+
 def cases(seed, count):
     rng = random.Random(seed)
     talk = Talk()
@@ -381,6 +398,7 @@ def cases(seed, count):
             once = sum(not rows[i - 1] < rows[i] for i in range(1, len(rows))) < 2
             if fault and (fault[0] != 4 or once):
                 talk.rows(top, rows)
+    fill(talk)
     talk.line("row-store 1")
     talk.say("1 1 1", "error: expected end")
     return talk

@@ -1,5 +1,5 @@
 -- What laying layers, withdrawing and restoring answer, and what they leave. Assumes nothing.
---     Beside s t     t has the queries, the catalogue and the table of s
+--     Beside s t     t has the queries, the catalogue and the table being read of s
 use Rattle.std.specs.Prelude.{◌≡◌, ℕ, true, ◌&&◌, ◌⊎◌, List, [], length, Some, None, Ok, Err, MatchOption}
 use Rattle.std.specs.Prelude.{Result}
 use Rattle.refusal.specs.declared.refusal.Refusal.TheVariants.{PropertyOutside}
@@ -19,7 +19,7 @@ use Rattle.feedtrace.specs.Failures.{Carried, lacks, refused}
 use Rattle.feedtrace.specs.Tables.{Table, table_meaning}
 use Rattle.feedtrace.specs.Layerings.{Inverted, Layered, bare, inverse_meaning, inverted_meaning}
 
--- t has the queries, the catalogue and the table of s
+-- t has the queries, the catalogue and the table being read of s
 pub record Beside (s t : Session) : Type 0 where
   pub queries : t.queries ≡ s.queries
   pub book : t.book ≡ s.book

@@ -12,7 +12,7 @@ use Rattle.feedtrace.specs.Numerals.{most_above, most_below, most_number}
 abbrev pub RowFits : Triple → Type 0
 RowFits t = (t.subject ≤ most_number) × (t.property ≤ most_number) × (t.object ≤ most_number)
 
--- if text is the triple t as text, t is what is read of it
+-- if t fits and text is t as text, t is what is read of it
 abbrev pub RowReadsBack : List ℕ → Option Triple → Type 0
 RowReadsBack text r = (t : Triple) → RowFits t → text ≡ triple_text t → r ≡ Some t
 
@@ -24,7 +24,7 @@ named_text m n = codes " " ++ (decimal m ++ (codes " " ++ decimal n))
 abbrev pub PairFits : Pair → Type 0
 PairFits p = (p.subject ≤ most_number) × (p.object ≤ most_number)
 
--- if text is what stands behind the name pair for the pair p, p is what is read of it
+-- if p fits and text is what stands behind the name pair for it, p is what is read of it
 abbrev pub PairReadsBack : List ℕ → Option Pair → Type 0
 PairReadsBack text r = (p : Pair) → PairFits p → text ≡ named_text p.subject p.object → r ≡ Some p
 
@@ -32,7 +32,7 @@ PairReadsBack text r = (p : Pair) → PairFits p → text ≡ named_text p.subje
 abbrev pub EntryFits : DirectoryEntry → Type 0
 EntryFits e = (e.property ≤ most_number) × (e.first ≤ most_number)
 
--- if text is what stands behind the name property for the entry e, e is what is read of it
+-- if e fits and text is what stands behind the name property for it, e is what is read of it
 abbrev pub EntryReadsBack : List ℕ → Option DirectoryEntry → Type 0
 EntryReadsBack text r = (e : DirectoryEntry) → EntryFits e → text ≡ named_text e.property e.first → r ≡ Some e
 
@@ -41,7 +41,7 @@ abbrev pub SignedFits : ℤ → Type 0
 SignedFits (pos n) = n ≤ most_above
 SignedFits (negsuc n) = n < most_below
 
--- if text is the number z with its sign as text, z is what is read of it
+-- if z fits and text is z with its sign, z is what is read of it
 abbrev pub SignedReadsBack : List ℕ → Option ℤ → Type 0
 SignedReadsBack text r = (z : ℤ) → SignedFits z → text ≡ signed_decimal z → r ≡ Some z
 
@@ -53,6 +53,6 @@ RecordFits e = (e.kind ≤ most_number) × SignedFits e.value
 abbrev pub record_text : Record → List ℕ
 record_text e = decimal e.kind ++ (codes " " ++ signed_decimal e.value)
 
--- if text is the record e as text, e is what is read of it
+-- if e fits and text is e as text, e is what is read of it
 abbrev pub RecordReadsBack : List ℕ → Option Record → Type 0
 RecordReadsBack text r = (e : Record) → RecordFits e → text ≡ record_text e → r ≡ Some e

@@ -79,6 +79,6 @@ TaskFits (task.Lookup n) = n ≤ most_number
 TaskFits (task.Scan s) = SelectorFits s
 TaskFits (task.Trace n) = n ≤ most_number
 
--- if text is the command of the task t, t is what is read of it
+-- if t fits and text is its command, t is what is read of it
 abbrev pub TaskReadsBack : List ℕ → Result (Option Task) Expected → Type 0
 TaskReadsBack text r = (t : Task) → TaskFits t → text ≡ task_text t → r ≡ Ok (Some t)

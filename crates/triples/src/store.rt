@@ -44,7 +44,8 @@ pub trait Store {
     ghost Kept: { Type 0 };
 
     /// What else of the store no question changes: of a table all of it, of a layer what the store below
-    /// stands for and keeps, and what is withdrawn. What is taken off or restored later hangs on it.
+    /// stands for and keeps, and what is withdrawn or turned. What is taken off or restored later hangs on
+    /// it.
     ghost kept: { Self → Kept };
 
     /// The top.
