@@ -1,14 +1,16 @@
 -- What is withdrawn is in the store below, whatever was called. Assumes nothing.
 use Rattle.std.proofs.Common.{◌≡◌, Bool, true, false, cond, List, [], ◌∷◌, ◌++◌, is_ok, Some, None, sym, refl}
-use Rattle.std.proofs.Common.{ap, ◌∙◌, subst}
-use Rattle.std.proofs.lemmas.Bool.{and_parts, false≢true}
+use Rattle.std.proofs.Common.{ap, ◌∙◌, ⊎_elim, subst}
+use Rattle.std.proofs.lemmas.Bool.{and_parts, or_cases, false≢true}
 use Rattle.refusal.specs.declared.refusal.Refusal.TheVariants.{AlreadyWithdrawn, NotStored, WithdrawnFull}
 use Rattle.triples.specs.declared.triple.Triple.{Triple}
 use Rattle.triples.specs.Meaning.{Meaning, among}
+use Rattle.triples.specs.Order.{same}
+use Rattle.triples.proofs.Order.{same_is}
 use Rattle.layers.specs.Histories.{After, RestoredIsThere}
 use Rattle.layers.specs.Sets.{Removed}
 use Rattle.layers.specs.Withdrawals.{without, amended, outcome}
-use Rattle.layers.proofs.Sets.{Held, held_push}
+use Rattle.layers.proofs.Sets.{among_push}
 
 -- what is not refused is in the store below
 ok_stored : (away stored room : Bool)
@@ -19,9 +21,15 @@ ok_stored true stored room e = absurd (false≢true e)
 ok_stored false true room e = refl
 ok_stored false false room e = absurd (false≢true e)
 
+-- each triple of the list is in the set
+abbrev Held : (Triple → Bool) → List Triple → Type 0
+Held has xs = (t : Triple) → among xs t ≡ true → has t ≡ true
+
 held_pushed : (has : Triple → Bool) (xs ys : List Triple) (t : Triple) (ok : Bool)
     → ys ≡ cond ok (xs ++ t ∷ []) xs → (ok ≡ true → has t ≡ true) → Held has xs → Held has ys
-held_pushed has xs ys t true e stored held = held_push has xs ys t true e (stored refl) held
+held_pushed has xs ys t true e stored held =
+    rw e (λ u h. ⊎_elim (held u) (λ is. ap has (sym (same_is t u is)) ∙ stored refl)
+    (or_cases (among xs u) (same t u) (sym (among_push xs t u) ∙ h)))
 held_pushed has xs ys t false e stored held = rw e held
 
 held_removed : (has : Triple → Bool) (xs ys : List Triple) (t : Triple) (ok : Bool)

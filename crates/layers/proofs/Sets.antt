@@ -1,11 +1,10 @@
 -- Laws of lists in which no triple stands twice. Assumes nothing.
 use Rattle.std.proofs.Common.{◌≡◌, ℕ, ◌+◌, ◌<◌, Bool, true, false, cond, not, ◌&&◌, ◌||◌, leb}
 use Rattle.std.proofs.Common.{List, [], ◌∷◌, ◌++◌, length, get_or, is_some, Some, Option, sym, refl, ap}
-use Rattle.std.proofs.Common.{◌∙◌, ⊎_elim, subst, arith}
+use Rattle.std.proofs.Common.{◌∙◌, subst, arith}
 use Rattle.std.proofs.lemmas.Iterator.Adapters.{position_from-zero}
 use Rattle.std.proofs.lemmas.List.Quantifiers.{position-Some}
 use Rattle.std.proofs.lemmas.List.Sums.{sum_by-cons, sum_by-swap_remove, sum_by_push}
-use Rattle.std.proofs.lemmas.Bool.{or_cases}
 use Rattle.std.proofs.lemmas.Bool.Decides.{nat_tests}
 use Rattle.std.specs.List.{list_any, position, position_from, swap_remove}
 use Rattle.triples.specs.declared.triple.Triple.{Triple}
@@ -17,18 +16,6 @@ use Rattle.layers.specs.Sets.{occurrences, Once, Removed}
 
 pub among_push : (xs : List Triple) (y t : Triple) → among (xs ++ y ∷ []) t ≡ (among xs t || same y t)
 among_push xs y t = grind (arith, nat_tests, among-append xs (y ∷ []) t)
-
--- each triple of the list is in the set
-abbrev pub Held : (Triple → Bool) → List Triple → Type 0
-Held has xs = (t : Triple) → among xs t ≡ true → has t ≡ true
-
--- a triple of the set was put behind a list of its triples, or the list is as it was
-pub held_push : (has : Triple → Bool) (xs ys : List Triple) (y : Triple) (more : Bool)
-    → ys ≡ cond more (xs ++ y ∷ []) xs → has y ≡ true → Held has xs → Held has ys
-held_push has xs ys y false e h held = rw e held
-held_push has xs ys y true e h held =
-    rw e (λ t a. ⊎_elim (held t) (λ s. ap has (sym (same_is y t s)) ∙ h)
-    (or_cases (among xs t) (same y t) (sym (among_push xs y t) ∙ a)))
 
 among-counted : (xs : List Triple) (t : Triple) → among xs t ≡ leb 1 (occurrences xs t)
 among-counted [] t = refl
