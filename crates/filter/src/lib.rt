@@ -1,0 +1,4 @@
+//! The truth of a filter on a row: true, false or error.
+#![tactic(auto)]
+
+pub mod truth;
