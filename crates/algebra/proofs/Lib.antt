@@ -1,0 +1,2 @@
+-- Read in this order.
+pub mod Listing  -- the answers of the walk, as plain lists

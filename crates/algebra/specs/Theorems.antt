@@ -1,0 +1,90 @@
+-- What this crate proves of every query, store and catalogue. Assumes nothing.
+use Rattle.std.specs.Prelude.{◌≡◌, ℕ, ◌+◌, ◌<◌, ◌≤◌, Bool, true, false, cond, ◌&&◌, List, ◌∷◌, ◌++◌, length}
+use Rattle.std.specs.Prelude.{slice_index_or}
+use Rattle.std.specs.List.{filter, flat_map, list_all}
+use Rattle.catalogue.specs.Entries.{Entry}
+use Rattle.query.specs.declared.pattern.TriplePattern.{TriplePattern}
+use Rattle.query.specs.Lawful.{total}
+use Rattle.query.specs.Limits.{variables}
+use Rattle.query.specs.Parts.{Group}
+use Rattle.triples.specs.Meaning.{Meaning}
+use Rattle.filter.specs.Rows.{Row}
+use Rattle.algebra.specs.Patterns.{blank, with_value, stored, open_variables}
+use Rattle.algebra.specs.Algebra.{bgp, compatible, merge, join, diff, left_join}
+use Rattle.algebra.specs.Answers.{Answer, solutions, answers_to, same_row, times, times_answered}
+use Rattle.algebra.specs.Order.{Precedes, Ascending, no_group}
+use Rattle.algebra.specs.Admissions.{Admission, Completes, Lawful, every_term, look_ahead}
+use Rattle.algebra.specs.Walk.{try, answers, admitted, walk_part, walk}
+use Rattle.algebra.specs.Words.{Answered}
+
+-- the walk lists the query's answers: each as often as the algebra counts it, in the order, none twice
+pub record ListsAll (m : Meaning) (e : ℕ → Entry) (q : List Group) (admits : Admission) : Type 0 where
+  pub as_often : (a : Answer)
+      → times_answered a (answers (walk m e admits q)) ≡ times_answered a (answers_to m e q)
+  pub in_order : Ascending (Precedes q) (answers (walk m e admits q))
+  pub once : (a : Answer) → times_answered a (answers (walk m e admits q)) ≤ 1
+
+-- whatever lawful admission it asks, the walk lists the query's answers
+abbrev pub WalkListsAnswers : Meaning → (ℕ → Entry) → List Group → Type 0
+WalkListsAnswers m e q = (admits : Admission) → Lawful m admits → ListsAll m e q admits
+
+-- two lawful admissions give the same answers in the same order
+abbrev pub SameUnderAllPruners : Meaning → (ℕ → Entry) → List Group → Type 0
+SameUnderAllPruners m e q = (one other : Admission) → Lawful m one → Lawful m other
+    → answers (walk m e one q) ≡ answers (walk m e other q)
+
+-- a row is a solution of an alternative exactly if it is one in words, and then once
+abbrev pub SolutionsInWords : Meaning → (ℕ → Entry) → List Group → Type 0
+SolutionsInWords m e q = (a : ℕ) (r : Row) → a < length q
+    → (Answered m e (slice_index_or q a no_group) r
+    → times r (solutions m e (slice_index_or q a no_group)) ≡ 1)
+    × (0 < times r (solutions m e (slice_index_or q a no_group))
+    → Answered m e (slice_index_or q a no_group) r)
+
+-- a row is an answer of an alternative as often as it is among that alternative's solutions, which is at most
+-- once; no answer has the number of an alternative that is not there
+pub record OnceInEach (m : Meaning) (e : ℕ → Entry) (q : List Group) : Type 0 where
+  pub each : (a : Answer) → a.alternative < length q
+      → times_answered a (answers_to m e q)
+      ≡ times a.row (solutions m e (slice_index_or q a.alternative no_group))
+  pub once : (a : Answer) → times_answered a (answers_to m e q) ≤ 1
+  pub beyond : (a : Answer) → length q ≤ a.alternative → times_answered a (answers_to m e q) ≡ 0
+
+-- trying every term, and looking ahead, leave out no value that the law protects
+abbrev pub PrunersLawful : Type 0
+PrunersLawful = (m : Meaning) → Lawful m (every_term m) × Lawful m (look_ahead m)
+
+-- the part's walk takes the lowest variable without a value: each admitted value gives a try, and then the
+-- part's walk from the row with it
+abbrev pub WalkTakesTheLowest : Type 0
+WalkTakesTheLowest =
+    (m : Meaning) (admits : Admission) (test : Row → Bool) (ts : List TriplePattern) (r : Row) (v : ℕ)
+    (vs : List ℕ) → length r ≡ variables → open_variables ts r ≡ v ∷ vs
+    → walk_part m admits test ts r
+    ≡ flat_map (λ x. try v x ∷ walk_part m admits test ts (with_value r v x)) (admitted m admits ts r v)
+
+-- a basic graph pattern has each row that gives its variables, and no others, values from 1 to the top under
+-- which its triples are all in the store, and has it once
+abbrev pub BasicPatterns : Type 0
+BasicPatterns = (m : Meaning) (ts : List TriplePattern) (r : Row)
+    → (Completes m.top ts blank r → stored m ts r ≡ true → times r (bgp m ts) ≡ 1)
+    × (0 < times r (bgp m ts) → Completes m.top ts blank r × (stored m ts r ≡ true))
+
+-- how often a row occurs in what the operators make, as the recommendation counts: in a filter as before or
+-- never, in a union by the sum, in a join by the pairs that merge to it, in a difference as before or never,
+-- in a left join by the sum of filtered join and difference
+pub record Cardinalities (test : Row → Bool) (left right : List Row) (r : Row) : Type 0 where
+  pub filtered : times r (filter test left) ≡ cond (test r) (times r left) 0
+  pub united : times r (left ++ right) ≡ times r left + times r right
+  pub joined : times r (join left right)
+      ≡ total (λ s. total (λ t. cond (compatible s t && same_row r (merge s t)) 1 0) right) left
+  pub lacking : times r (diff test left right)
+      ≡ cond (list_all (λ s. cond (compatible r s) (cond (test (merge r s)) false true) true) right)
+      (times r left) 0
+  pub left_joined : times r (left_join test left right)
+      ≡ times r (filter test (join left right)) + times r (diff test left right)
+
+-- these counts, for all rows and tests
+abbrev pub CountedAsDefined : Type 0
+CountedAsDefined = (test : Row → Bool) (left right : List Row) (r : Row)
+    → Cardinalities test left right r
