@@ -1,2 +1,3 @@
 //! What the answers of a query are, in which order they come, and the walk that lists them: definitions, and
+//! what is proved of them.
 #![tactic(auto)]
