@@ -1,15 +1,23 @@
 -- The rows that give some variables values: which they are, and that each is there once. Assumes nothing.
 --     Fills top vs r s    s gives each variable of vs a term from 1 to top, and is like r elsewhere
-use Rattle.std.proofs.Common.{◌≡◌, ℕ, ◌+◌, ◌<◌, ◌≤◌, Bool, true, false, ◌⊎◌, List, [], ◌∷◌}
+use Rattle.std.proofs.Common.{◌≡◌, ℕ, ◌+◌, ◌<◌, ◌≤◌, Bool, true, false, cond, not, ◌&&◌, ◌⊎◌, List, [], ◌∷◌, map}
 use Rattle.std.proofs.Common.{length, refl, sym, ap, ◌∙◌, subst, ⊎_elim, arith, zero, suc, inl, inr}
-use Rattle.std.proofs.lemmas.Bool.{cases_Bool, cases_eq}
-use Rattle.std.specs.List.{AllByRecursion, filter, range_with_len}
-use Rattle.query.specs.Lawful.{total}
-use Rattle.triples.specs.Meaning.{Term}
-use Rattle.filter.specs.Rows.{Row, value}
-use Rattle.algebra.specs.Patterns.{terms}
-use Rattle.algebra.proofs.Lists.{all-weaker, all-filter, total-zero, filter-yes, filter-no, filter-same}
-use Rattle.algebra.proofs.Rows.{all-range}
+use Rattle.std.proofs.lemmas.Bool.{cases_Bool, cases_eq, cases_lt, and_parts, and_from, false≢true}
+use Rattle.std.proofs.lemmas.Bool.{cond-true, cond-false}
+use Rattle.std.specs.List.{AllByRecursion, filter, flat_map, range_with_len}
+use Rattle.query.specs.declared.pattern.TriplePattern.{TriplePattern}
+use Rattle.query.specs.Lawful.{mentions, total}
+use Rattle.query.specs.Limits.{variables}
+use Rattle.triples.specs.Meaning.{Term, first_term}
+use Rattle.filter.specs.Rows.{Row, none, value, has_value}
+use Rattle.algebra.specs.Patterns.{with_value, numbers, open_variables, terms, assignments, completions}
+use Rattle.algebra.specs.Answers.{same_row, times}
+use Rattle.algebra.specs.Admissions.{Completes}
+use Rattle.algebra.proofs.Lists.{all-every, all-weaker, all-flat_map, all-filter, total-zero, filter-yes, filter-no}
+use Rattle.algebra.proofs.Lists.{filter-same, total-flat_map, total-like}
+use Rattle.algebra.proofs.Rows.{value-with_same, value-with_other, length-with_value, value-past, row-from_values}
+use Rattle.algebra.proofs.Rows.{has_value-no, has_value-yes, has_value-none, has_value-some, same_row-true}
+use Rattle.algebra.proofs.Rows.{same_row-refl, times-total, all-range}
 
 -- variables and terms
 
@@ -133,3 +141,104 @@ pub all-terms : (top : ℕ) → AllByRecursion (Term top) (terms top)
 all-terms top =
     all-weaker (λ x. (1 ≤ x) × (x < 1 + top)) (Term top)
     (λ x h. record { positive = h.0; small = omega (arith, h.1) }) (terms top) (all-range 1 top)
+
+-- assignments
+
+-- a variable that comes before all of vs is not among them
+not-among : (v : ℕ) (vs : List ℕ) → AllByRecursion (λ w. v < w) vs → Among v vs → ⊥
+not-among v [] h k = k
+not-among v (w ∷ vs) h k = ⊎_elim (λ e. omega (arith, h.0, e)) (not-among v vs h.1) k
+
+pub fills-none : (top : ℕ) (r : Row) → Fills top [] r r
+fills-none top r = record { long = refl; given = λ v h. absurd h; kept = λ v _. refl }
+
+-- with a term at v, the later variables are to be filled
+pub fills-more : (top v x : ℕ) (vs : List ℕ) (r s : Row) → Rising (length r) (v ∷ vs) → Term top x
+    → Fills top vs (with_value r v x) s → Fills top (v ∷ vs) r s
+fills-more top v x vs r s rising t f = record {
+  long = f.long ∙ length-with_value r v x;
+  given = λ w h. ⊎_elim
+      (λ e. subst (Term top)
+      (sym (ap (value s) e ∙ f.kept v (not-among v vs rising.1) ∙ value-with_same r v x rising.0)) t)
+      (f.given w) h;
+  kept = λ w h. f.kept w (λ k. h (inr k)) ∙ value-with_other r v x w (λ e. h (inl e));
+}
+
+-- what fills v and the later variables has a term at v, and with it fills the later ones
+pub fills-fewer : (top v : ℕ) (vs : List ℕ) (r s : Row) → Rising (length r) (v ∷ vs) → Fills top (v ∷ vs) r s
+    → Fills top vs (with_value r v (value s v)) s
+fills-fewer top v vs r s rising f = record {
+  long = f.long ∙ sym (length-with_value r v (value s v));
+  given = λ w h. f.given w (inr h);
+  kept = λ w h. ⊎_elim
+      (λ e. ap (value s) e ∙ sym (value-with_same r v (value s v) rising.0)
+      ∙ ap (value (with_value r v (value s v))) (sym e))
+      (λ ne. f.kept w (λ k. ⊎_elim ne h k) ∙ sym (value-with_other r v (value s v) w ne))
+      (cases_eq w v);
+}
+
+pub rising-with : (r : Row) (v x : ℕ) (vs : List ℕ) → Rising (length r) vs → Rising (length (with_value r v x)) vs
+rising-with r v x vs h = subst (λ n. Rising n vs) (sym (length-with_value r v x)) h
+
+-- every row of the assignments fills
+pub assignments-fill : (top : ℕ) (vs : List ℕ) (r : Row) → Rising (length r) vs
+    → AllByRecursion (Fills top vs r) (assignments top vs r)
+assignments-fill top [] r rising = (fills-none top r, tt)
+assignments-fill top (v ∷ vs) r rising =
+    all-flat_map (Fills top (v ∷ vs) r) (λ x. assignments top vs (with_value r v x)) (terms top)
+    (all-weaker (Term top)
+    (λ x. AllByRecursion (Fills top (v ∷ vs) r) (assignments top vs (with_value r v x)))
+    (λ x t. all-weaker (Fills top vs (with_value r v x)) (Fills top (v ∷ vs) r)
+    (λ s f. fills-more top v x vs r s rising t f) (assignments top vs (with_value r v x))
+    (assignments-fill top vs (with_value r v x) (rising-with r v x vs rising.2)))
+    (terms top) (all-terms top))
+
+-- how often a row is among rows
+
+-- a row that is among rows has what they all have
+pub times-all : (P : Row → Type 0) (s : Row) (rows : List Row) → AllByRecursion P rows → 0 < times s rows → P s
+times-all P s [] h k = absurd (omega (arith, k))
+times-all P s (r ∷ rows) h k =
+    ⊎_elim
+    (λ y. subst P (sym (same_row-true s r y)) h.0)
+    (λ f. let none = cond-false {A = ℕ} (same_row s r) 1 0 f in
+    let now = times-total s (r ∷ rows) in let later = times-total s rows in
+    times-all P s rows h.1 (omega (arith, k, none, now, later)))
+    (cases_Bool (same_row s r))
+
+-- a row is not among rows that are all another
+pub times-none : (s : Row) (rows : List Row) → AllByRecursion (λ r. s ≡ r → ⊥) rows → times s rows ≡ 0
+times-none s rows h =
+    ⊎_elim (λ k. absurd (times-all (λ r. s ≡ r → ⊥) s rows h k refl)) (λ e. omega (arith, e))
+    (cases_lt 0 (times s rows))
+
+pub times-flat_map : {B : Type 0} (s : Row) (f : B → List Row) (xs : List B)
+    → times s (flat_map f xs) ≡ total (λ x. times s (f x)) xs
+times-flat_map s f xs =
+    times-total s (flat_map f xs) ∙ total-flat_map (λ r. cond (same_row s r) 1 0) f xs
+    ∙ total-like (λ x. total (λ r. cond (same_row s r) 1 0) (f x)) (λ x. times s (f x))
+    (λ x. sym (times-total s (f x))) xs
+
+pub times-single : (s : Row) → times s (s ∷ []) ≡ 1
+times-single s =
+    let here = cond-true {A = ℕ} (same_row s s) 1 0 (same_row-refl s) in
+    let all = times-total s (s ∷ []) in
+    omega (arith, here, all)
+
+-- a row that fills is among the assignments exactly once
+pub fills-once : (top : ℕ) (vs : List ℕ) (r s : Row) → Rising (length r) vs → Fills top vs r s
+    → times s (assignments top vs r) ≡ 1
+fills-once top [] r s rising f =
+    subst (λ t. times s (t ∷ []) ≡ 1) (row-from_values s r f.long (λ v. f.kept v (λ k. k))) (times-single s)
+fills-once top (v ∷ vs) r s rising f =
+    let t = f.given v (inl refl) in
+    let next = λ (x : ℕ). assignments top vs (with_value r v x) in
+    times-flat_map s next (terms top)
+    ∙ total-one (λ x. times s (next x)) (value s v) 1 top t.positive (omega (arith, t.small))
+    (fills-once top vs (with_value r v (value s v)) s (rising-with r v (value s v) vs rising.2)
+    (fills-fewer top v vs r s rising f))
+    (λ x ne. times-none s (next x)
+    (all-weaker (Fills top vs (with_value r v x)) (λ u. s ≡ u → ⊥)
+    (λ u g e. ne (sym (ap (λ w. value w v) e ∙ g.kept v (not-among v vs rising.1)
+    ∙ value-with_same r v x rising.0)))
+    (next x) (assignments-fill top vs (with_value r v x) (rising-with r v x vs rising.2))))
