@@ -1,22 +1,22 @@
 -- The rows that give some variables values: which they are, and that each is there once. Assumes nothing.
 --     Fills top vs r s    s gives each variable of vs a term from 1 to top, and is like r elsewhere
-use Rattle.std.proofs.Common.{◌≡◌, ℕ, ◌+◌, ◌<◌, ◌≤◌, Bool, true, false, cond, not, ◌&&◌, ◌⊎◌, List, [], ◌∷◌, map}
-use Rattle.std.proofs.Common.{length, refl, sym, ap, ◌∙◌, subst, ⊎_elim, arith, zero, suc, inl, inr}
+use Rattle.std.proofs.Common.{◌≡◌, ℕ, ◌+◌, ◌<◌, ◌≤◌, Bool, true, false, cond, not, ◌&&◌, ◌⊎◌, List, [], ◌∷◌}
+use Rattle.std.proofs.Common.{length, eqb, refl, sym, ap, ◌∙◌, subst, ⊎_elim, arith, zero, suc, inl, inr}
 use Rattle.std.proofs.lemmas.Bool.{cases_Bool, cases_eq, cases_lt, and_parts, and_from, false≢true}
 use Rattle.std.proofs.lemmas.Bool.{cond-true, cond-false}
 use Rattle.std.specs.List.{AllByRecursion, filter, flat_map, range_with_len}
 use Rattle.query.specs.declared.pattern.TriplePattern.{TriplePattern}
 use Rattle.query.specs.Lawful.{mentions, total}
 use Rattle.query.specs.Limits.{variables}
-use Rattle.triples.specs.Meaning.{Term, first_term}
+use Rattle.triples.specs.Meaning.{Term}
 use Rattle.filter.specs.Rows.{Row, none, value, has_value}
-use Rattle.algebra.specs.Patterns.{with_value, numbers, open_variables, terms, assignments, completions}
+use Rattle.algebra.specs.Patterns.{with_value, open_variables, terms, assignments, completions}
 use Rattle.algebra.specs.Answers.{same_row, times}
 use Rattle.algebra.specs.Admissions.{Completes}
-use Rattle.algebra.proofs.Lists.{all-every, all-weaker, all-flat_map, all-filter, total-zero, filter-yes, filter-no}
+use Rattle.algebra.proofs.Lists.{all-weaker, all-flat_map, all-filter, total-zero, filter-yes, filter-no}
 use Rattle.algebra.proofs.Lists.{filter-same, total-flat_map, total-like}
 use Rattle.algebra.proofs.Rows.{value-with_same, value-with_other, length-with_value, value-past, row-from_values}
-use Rattle.algebra.proofs.Rows.{has_value-no, has_value-yes, has_value-none, has_value-some, same_row-true}
+use Rattle.algebra.proofs.Rows.{has_value-no, has_value-none, has_value-some, same_row-true}
 use Rattle.algebra.proofs.Rows.{same_row-refl, times-total, all-range}
 
 -- variables and terms
@@ -242,3 +242,98 @@ fills-once top (v ∷ vs) r s rising f =
     (λ u g e. ne (sym (ap (λ w. value w v) e ∙ g.kept v (not-among v vs rising.1)
     ∙ value-with_same r v x rising.0)))
     (next x) (assignments-fill top vs (with_value r v x) (rising-with r v x vs rising.2))))
+
+-- open variables
+
+not-true : (b : Bool) → not b ≡ true → b ≡ false
+not-true true h = absurd (false≢true h)
+not-true false h = refl
+
+and-right : (a : Bool) {b : Bool} → b ≡ false → (a && b) ≡ false
+and-right true e = e
+and-right false e = refl
+
+pub open-rising : (ts : List TriplePattern) (r : Row) → length r ≡ variables
+    → Rising (length r) (open_variables ts r)
+open-rising ts r long =
+    subst (λ n. Rising n (open_variables ts r)) (sym long)
+    (rising-range (λ v. mentions v ts && not (has_value r v)) 0 variables variables (omega arith))
+
+-- a variable below 16 that the patterns hold and the row gives no value is open
+pub among-open : (ts : List TriplePattern) (r : Row) (v : ℕ) → v < variables → mentions v ts ≡ true
+    → value r v ≡ 0
+    → Among v (open_variables ts r)
+among-open ts r v h m e =
+    among-range (λ w. mentions w ts && not (has_value r w)) 0 variables v (omega arith) (omega (arith, h))
+    (and_from (mentions v ts) (not (has_value r v)) m (ap not (has_value-none r v e)))
+
+-- what is known of an open variable
+pub record Open (ts : List TriplePattern) (r : Row) (v : ℕ) : Type 0 where
+  pub inside : v < variables
+  pub held : mentions v ts ≡ true
+  pub valueless : value r v ≡ 0
+
+pub among-open_back : (ts : List TriplePattern) (r : Row) (v : ℕ) → Among v (open_variables ts r) → Open ts r v
+among-open_back ts r v h =
+    let p = among-range_back (λ w. mentions w ts && not (has_value r w)) 0 variables v h in
+    let parts = and_parts (mentions v ts) (not (has_value r v)) p.passes in
+    record {
+      inside = omega (arith, p.high);
+      held = parts.0;
+      valueless = has_value-no r v (not-true (has_value r v) parts.1);
+    }
+
+-- with a value for the first open variable, the others are open
+pub open-rest : (ts : List TriplePattern) (r : Row) (v x : ℕ) (vs : List ℕ) → length r ≡ variables
+    → open_variables ts r ≡ v ∷ vs
+    → 0 < x → open_variables ts (with_value r v x) ≡ vs
+open-rest ts r v x vs long e some =
+    let first = among-open_back ts r v (subst (Among v) (sym e) (inl refl)) in
+    range-rest (λ w. mentions w ts && not (has_value r w))
+    (λ w. mentions w ts && not (has_value (with_value r v x) w)) 0 variables v vs e
+    (λ w ne. ap (λ y. mentions w ts && not (not (eqb y none))) (sym (value-with_other r v x w ne)))
+    (and-right (mentions v ts) (ap not (has_value-some (with_value r v x) v
+    (subst (λ y. 0 < y) (sym (value-with_same r v x (subst (λ n. v < n) (sym long) first.inside))) some))))
+
+-- completions
+
+-- what completes the row fills its open variables
+pub fills-from_completes : (top : ℕ) (ts : List TriplePattern) (r s : Row) → length r ≡ variables
+    → Completes top ts r s
+    → Fills top (open_variables ts r) r s
+fills-from_completes top ts r s long c = record {
+  long = c.long;
+  given = λ v h. let o = among-open_back ts r v h in c.given v o.held o.valueless;
+  kept = λ v h. ⊎_elim
+      (λ below. ⊎_elim
+      (λ e. ⊎_elim
+      (λ held. absurd (h (among-open ts r v below held e)))
+      (λ free. c.kept v (inl free))
+      (cases_Bool (mentions v ts)))
+      (λ ne. c.kept v (inr ne))
+      (cases_eq (value r v) 0))
+      (λ past. value-past s v (omega (arith, past, long, c.long)) ∙ sym (value-past r v (omega (arith, past, long))))
+      (cases_lt v variables);
+}
+
+-- what fills the open variables completes the row, if the patterns hold no variable over 15
+pub completes-from_fills : (top : ℕ) (ts : List TriplePattern) (r s : Row)
+    → ((v : ℕ) → mentions v ts ≡ true → v < variables) → Fills top (open_variables ts r) r s
+    → Completes top ts r s
+completes-from_fills top ts r s small f = record {
+  long = f.long;
+  given = λ v held e. f.given v (among-open ts r v (small v held) held e);
+  kept = λ v h. f.kept v (λ k. let o = among-open_back ts r v k in
+      ⊎_elim (λ free. absurd (false≢true (sym free ∙ o.held))) (λ ne. absurd (ne o.valueless)) h);
+}
+
+pub completions-fill : (top : ℕ) (ts : List TriplePattern) (r : Row) → length r ≡ variables
+    → AllByRecursion (Fills top (open_variables ts r) r) (completions top ts r)
+completions-fill top ts r long = assignments-fill top (open_variables ts r) r (open-rising ts r long)
+
+-- a row that completes another is among its completions exactly once
+pub completes-once : (top : ℕ) (ts : List TriplePattern) (r s : Row) → length r ≡ variables
+    → Completes top ts r s
+    → times s (completions top ts r) ≡ 1
+completes-once top ts r s long c =
+    fills-once top (open_variables ts r) r s (open-rising ts r long) (fills-from_completes top ts r s long c)
