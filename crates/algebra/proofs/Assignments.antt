@@ -303,33 +303,42 @@ pub fills-from_completes : (top : ℕ) (ts : List TriplePattern) (r s : Row) →
     → Fills top (open_variables ts r) r s
 fills-from_completes top ts r s long c = record {
   long = c.long;
-  given = λ v h. let o = among-open_back ts r v h in c.given v o.held o.valueless;
+  given = λ v h. let o = among-open_back ts r v h in c.given v o.inside o.held o.valueless;
   kept = λ v h. ⊎_elim
       (λ below. ⊎_elim
       (λ e. ⊎_elim
       (λ held. absurd (h (among-open ts r v below held e)))
-      (λ free. c.kept v (inl free))
+      (λ free. c.kept v (inr (inl free)))
       (cases_Bool (mentions v ts)))
-      (λ ne. c.kept v (inr ne))
+      (λ ne. c.kept v (inr (inr ne)))
       (cases_eq (value r v) 0))
       (λ past. value-past s v (omega (arith, past, long, c.long)) ∙ sym (value-past r v (omega (arith, past, long))))
       (cases_lt v variables);
 }
 
--- what fills the open variables completes the row, if the patterns hold no variable over 15
-pub completes-from_fills : (top : ℕ) (ts : List TriplePattern) (r s : Row)
-    → ((v : ℕ) → mentions v ts ≡ true → v < variables) → Fills top (open_variables ts r) r s
+-- what fills the open variables completes the row
+pub completes-from_fills : (top : ℕ) (ts : List TriplePattern) (r s : Row) → Fills top (open_variables ts r) r s
     → Completes top ts r s
-completes-from_fills top ts r s small f = record {
+completes-from_fills top ts r s f = record {
   long = f.long;
-  given = λ v held e. f.given v (among-open ts r v (small v held) held e);
+  given = λ v below held e. f.given v (among-open ts r v below held e);
   kept = λ v h. f.kept v (λ k. let o = among-open_back ts r v k in
-      ⊎_elim (λ free. absurd (false≢true (sym free ∙ o.held))) (λ ne. absurd (ne o.valueless)) h);
+      ⊎_elim
+      (λ past. absurd (omega (arith, past, o.inside)))
+      (λ other. ⊎_elim (λ free. absurd (false≢true (sym free ∙ o.held))) (λ ne. absurd (ne o.valueless)) other)
+      h);
 }
 
 pub completions-fill : (top : ℕ) (ts : List TriplePattern) (r : Row) → length r ≡ variables
     → AllByRecursion (Fills top (open_variables ts r) r) (completions top ts r)
 completions-fill top ts r long = assignments-fill top (open_variables ts r) r (open-rising ts r long)
+
+-- every completion of a row completes it
+pub completions-complete : (top : ℕ) (ts : List TriplePattern) (r : Row) → length r ≡ variables
+    → AllByRecursion (Completes top ts r) (completions top ts r)
+completions-complete top ts r long =
+    all-weaker (Fills top (open_variables ts r) r) (Completes top ts r) (completes-from_fills top ts r)
+    (completions top ts r) (completions-fill top ts r long)
 
 -- a row that completes another is among its completions exactly once
 pub completes-once : (top : ℕ) (ts : List TriplePattern) (r s : Row) → length r ≡ variables

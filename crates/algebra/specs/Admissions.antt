@@ -3,23 +3,29 @@
 --     Completes top ts r s  s gives the variables of ts that r gives none a value, and is like r elsewhere
 --     Lawful m admits       no value is left out that some completion in the store has
 --     every_term, look_ahead      the two admissions that are always to be had
-use Rattle.std.specs.Prelude.{◌≡◌, ℕ, Bool, true, false, ◌&&◌, ◌⊎◌, List, [], ◌∷◌, length, ◌≢◌}
+--     Matches r t u         u is a triple that the pattern t can become under the row r
+use Rattle.std.specs.Prelude.{◌≡◌, ℕ, ◌<◌, ◌≤◌, Bool, true, false, ◌&&◌, ◌⊎◌, List, [], ◌∷◌, length, ◌≢◌}
 use Rattle.std.specs.List.{list_all, list_any}
 use Rattle.query.specs.declared.pattern.TriplePattern.{TriplePattern}
+use Rattle.query.specs.declared.place.Place.{Place}
 use Rattle.query.specs.Lawful.{mentions}
+use Rattle.query.specs.Limits.{variables}
+use Rattle.triples.specs.declared.triple.Triple.{Triple}
 use Rattle.triples.specs.Meaning.{Meaning, Term, term}
-use Rattle.filter.specs.Rows.{Row, none, value}
+use Rattle.filter.specs.Rows.{Row, none, value, number_at}
 use Rattle.algebra.specs.Patterns.{with_value, stored, completions}
 
 -- for a part's triples, a row, a variable and a value: whether the value is admitted
 abbrev pub Admission : Type 0
 Admission = List TriplePattern → Row → ℕ → ℕ → Bool
 
--- s gives a value from 1 to top to each variable of the patterns to which r gives none, and to no others
+-- s gives a value from 1 to top to each of the sixteen variables that is in the patterns and to which r gives
+-- none, and to no others
 pub record Completes (top : ℕ) (ts : List TriplePattern) (r s : Row) : Type 0 where
   pub long : length s ≡ length r
-  pub given : (v : ℕ) → mentions v ts ≡ true → value r v ≡ none → Term top (value s v)
-  pub kept : (v : ℕ) → (mentions v ts ≡ false) ⊎ (value r v ≢ none) → value s v ≡ value r v
+  pub given : (v : ℕ) → v < variables → mentions v ts ≡ true → value r v ≡ none → Term top (value s v)
+  pub kept : (v : ℕ) → (variables ≤ v) ⊎ ((mentions v ts ≡ false) ⊎ (value r v ≢ none))
+      → value s v ≡ value r v
 
 -- a value is admitted if some completion of the row with it has all the part's triples in the store; and only
 -- values from 1 to the top are
@@ -41,3 +47,17 @@ possible m r t = list_any (stored m (t ∷ [])) (completions m.top (t ∷ []) r)
 -- of them need not agree on a third variable
 abbrev pub look_ahead : Meaning → Admission
 look_ahead m ts r v x = term m.top x && list_all (possible m (with_value r v x)) ts
+
+-- under the row the place has no number, or n
+abbrev pub Allows : Row → Place → ℕ → Type 0
+Allows r p n = (number_at r p ≡ none) ⊎ (number_at r p ≡ n)
+
+-- the triple u is one that the pattern can become under the row: each of its numbers is the one at the pattern's
+-- place, where that has one, and two places that are the same variable have the same number
+pub record Matches (r : Row) (t : TriplePattern) (u : Triple) : Type 0 where
+  pub subject : Allows r t.subject u.subject
+  pub property : Allows r t.property u.property
+  pub object : Allows r t.object u.object
+  pub subject_property : t.subject ≡ t.property → u.subject ≡ u.property
+  pub subject_object : t.subject ≡ t.object → u.subject ≡ u.object
+  pub property_object : t.property ≡ t.object → u.property ≡ u.object

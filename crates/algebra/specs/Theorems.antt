@@ -4,16 +4,17 @@ use Rattle.std.specs.Prelude.{slice_index_or}
 use Rattle.std.specs.List.{filter, flat_map, list_all}
 use Rattle.catalogue.specs.Entries.{Entry}
 use Rattle.query.specs.declared.pattern.TriplePattern.{TriplePattern}
-use Rattle.query.specs.Lawful.{total}
+use Rattle.query.specs.Lawful.{total, lawful_triple}
 use Rattle.query.specs.Limits.{variables}
 use Rattle.query.specs.Parts.{Group}
-use Rattle.triples.specs.Meaning.{Meaning}
+use Rattle.triples.specs.declared.triple.Triple.{Triple}
+use Rattle.triples.specs.Meaning.{Meaning, Sound}
 use Rattle.filter.specs.Rows.{Row}
 use Rattle.algebra.specs.Patterns.{blank, with_value, stored, open_variables}
 use Rattle.algebra.specs.Algebra.{bgp, compatible, merge, join, diff, left_join}
 use Rattle.algebra.specs.Answers.{Answer, solutions, answers_to, same_row, times, times_answered}
 use Rattle.algebra.specs.Order.{Precedes, Ascending, no_group}
-use Rattle.algebra.specs.Admissions.{Admission, Completes, Lawful, every_term, look_ahead}
+use Rattle.algebra.specs.Admissions.{Admission, Completes, Lawful, every_term, possible, look_ahead, Matches}
 use Rattle.algebra.specs.Walk.{try, answers, admitted, walk_part, walk}
 use Rattle.algebra.specs.Words.{Answered}
 
@@ -53,6 +54,13 @@ pub record OnceInEach (m : Meaning) (e : ℕ → Entry) (q : List Group) : Type 
 -- trying every term, and looking ahead, leave out no value that the law protects
 abbrev pub PrunersLawful : Type 0
 PrunersLawful = (m : Meaning) → Lawful m (every_term m) × Lawful m (look_ahead m)
+
+-- what the look-ahead asks of a pattern, without rows: it is possible exactly if some triple of the store matches
+abbrev pub LookAheadInWords : Type 0
+LookAheadInWords = (m : Meaning) (r : Row) (t : TriplePattern) → Sound m → length r ≡ variables
+    → lawful_triple t ≡ true
+    → (possible m r t ≡ true → (u : Triple) × (m.has u ≡ true) × Matches r t u)
+    × ((u : Triple) → m.has u ≡ true → Matches r t u → possible m r t ≡ true)
 
 -- the part's walk takes the lowest variable without a value: each admitted value gives a try, and then the
 -- part's walk from the row with it
