@@ -1,11 +1,7 @@
 -- Laws of the answers among marks, by what puts the marks together. Assumes nothing.
-use Rattle.std.proofs.Common.{◌≡◌, Bool, cond, List, [], ◌∷◌, ◌++◌, refl, sym, ap, ◌∙◌}
-use Rattle.std.proofs.Common.{⊎_elim}
-use Rattle.std.proofs.lemmas.Bool.{cases_Bool}
-use Rattle.std.specs.List.{filter, flat_map}
+use Rattle.std.proofs.Common.{◌≡◌, Bool, true, false, cond, List, [], ◌∷◌, ◌++◌, refl, ap, ◌∙◌}
+use Rattle.std.specs.List.{flat_map}
 use Rattle.algebra.specs.Walk.{Mark, try, answer, answers, follow, answer_if}
-
--- answers
 
 module _ {A : Type 0} where
   pub answers-append : (ms ns : List (Mark A)) → answers (ms ++ ns) ≡ answers ms ++ answers ns
@@ -26,10 +22,6 @@ module _ {A : Type 0} where
   answers-follow on (answer b ∷ ms) =
       answers-append (on b) (follow on ms) ∙ ap (λ rest. answers (on b) ++ rest) (answers-follow on ms)
 
-  -- an answer that passes its test is what the test leaves of it
-  pub answers-answer_if : (p : A → Bool) (a : A) → answers (answer_if (p a) a) ≡ filter p (a ∷ [])
-  answers-answer_if p a =
-      ⊎_elim
-      (λ t. ap (λ b. answers (answer_if b a)) t ∙ sym (ap (λ b. cond b (a ∷ []) []) t))
-      (λ n. ap (λ b. answers (answer_if b a)) n ∙ sym (ap (λ b. cond b (a ∷ []) []) n))
-      (cases_Bool (p a))
+  pub answers-answer_if : (test : Bool) (a : A) → answers (answer_if test a) ≡ cond test (a ∷ []) []
+  answers-answer_if true a = refl
+  answers-answer_if false a = refl

@@ -1,12 +1,12 @@
--- The walk of one part from a row lists the completions of the row that the part fits, whatever is admitted,
--- as long as no value is left out that a completion in the store which passes a test has; of the answers,
--- those that pass the test are then the same. Assumes nothing.
+-- The walk of one part from a row: of its answers those that pass a test are those of the listing, if no value
+-- is left out that a completion in the store which passes the test has. Assumes nothing.
 --     Protects m p admits     no value is left out that some completion which passes p has in the store
---     walk_part-protected     what passes p is answered as it is listed
---     walk_part-lawful        under a lawful admission all is answered as it is listed
+--     filter-walk_part        what passes p is answered as it is listed
+--     answers-walk_part       under a lawful admission all is answered as it is listed
 use Rattle.std.proofs.Common.{◌≡◌, ℕ, Bool, true, false, cond, ◌&&◌, List, [], ◌∷◌, length, refl, sym}
 use Rattle.std.proofs.Common.{ap, ◌∙◌, subst, ⊎_elim}
-use Rattle.std.proofs.lemmas.Bool.{cases_Bool, cond-true, cond-false, and_parts, false_from_ne_true, both_ways}
+use Rattle.std.proofs.lemmas.Bool.{cases_Bool, cond-true, cond-false, and_parts, false_from_ne_true}
+use Rattle.std.proofs.lemmas.Bool.{both_ways}
 use Rattle.std.specs.List.{filter}
 use Rattle.query.specs.declared.pattern.TriplePattern.{TriplePattern}
 use Rattle.query.specs.Limits.{variables}
@@ -16,20 +16,20 @@ use Rattle.algebra.specs.Patterns.{with_value, stored, open_variables, terms, as
 use Rattle.algebra.specs.Admissions.{Admission, Completes, Lawful}
 use Rattle.algebra.specs.Walk.{Mark, try, answers, admitted, walk_through, walk_part}
 use Rattle.algebra.specs.Theorems.{WalkTakesTheLowest}
-use Rattle.algebra.proofs.Lists.{all-weaker, flat_map-same, flat_map-filter, filter-flat_map, filter-filter, filter-none}
-use Rattle.algebra.proofs.Lists.{filter-all, all-every, all-filter}
+use Rattle.algebra.proofs.Lists.{all-weaker, all-every, all-filter, flat_map-same, flat_map-filter}
+use Rattle.algebra.proofs.Lists.{filter-flat_map, filter-filter, filter-none, filter-all}
 use Rattle.algebra.proofs.Rows.{length-with_value}
 use Rattle.algebra.proofs.Assignments.{all-terms, open-rest, completions-complete}
 use Rattle.algebra.proofs.Listing.{fitting}
 use Rattle.algebra.proofs.Marks.{answers-flat_map, answers-answer_if}
 
--- no value from 1 to the top is left out with which some completion of the row that passes p has all the part's
--- triples in the store
+-- a value from 1 to the top is admitted if some completion of the row with it has all the part's triples in
+-- the store and passes p
 abbrev pub Protects : Meaning → (Row → Bool) → Admission → Type 0
 Protects m p admits = (ts : List TriplePattern) (r : Row) (v x : ℕ) (s : Row) → Term m.top x
     → Completes m.top ts (with_value r v x) s → stored m ts s ≡ true → p s ≡ true → admits ts r v x ≡ true
 
--- a lawful admission protects every completion
+-- the law is this with a test that is always true: a lawful admission protects every completion
 pub lawful_protects : (m : Meaning) (admits : Admission) → Lawful m admits → Protects m (λ _. true) admits
 lawful_protects m admits law ts r v x s term completes has _ = law.keeps ts r v x s term completes has
 
@@ -54,11 +54,11 @@ module _ (m : Meaning) (p : Row → Bool) (admits : Admission) (law : Protects m
       both_ways (admits ts r v x) left (law ts r v x s term c has.0 both.1)))
       rows complete)
 
-  through : (vs : List ℕ) (r : Row) → length r ≡ variables → open_variables ts r ≡ vs
+  filter-walk_through : (vs : List ℕ) (r : Row) → length r ≡ variables → open_variables ts r ≡ vs
       → filter p (answers (walk_through m admits ts fits vs r))
       ≡ filter p (filter fits (assignments m.top vs r))
-  through [] r long e = ap (filter p) (answers-answer_if fits r)
-  through (v ∷ vs) r long e =
+  filter-walk_through [] r long e = ap (filter p) (answers-answer_if (fits r) r)
+  filter-walk_through (v ∷ vs) r long e =
       let after = λ (x : ℕ). walk_through m admits ts fits vs (with_value r v x) in
       let rows = λ (x : ℕ). assignments m.top vs (with_value r v x) in
       let each : (x : ℕ) → Term m.top x
@@ -67,7 +67,7 @@ module _ (m : Meaning) (p : Row → Bool) (admits : Admission) (law : Protects m
       let rest = open-rest ts r v x vs long e term.positive in
       ⊎_elim
       (λ t. cond-true (admits ts r v x) (filter p (answers (after x))) [] t
-      ∙ through vs (with_value r v x) (length-with_value r v x ∙ long) rest)
+      ∙ filter-walk_through vs (with_value r v x) (length-with_value r v x ∙ long) rest)
       (λ n. cond-false (admits ts r v x) (filter p (answers (after x))) [] n
       ∙ sym (subst (λ ws. filter p (filter fits (assignments m.top ws (with_value r v x))) ≡ []) rest
       (nothing_lost r v x long term n)))
@@ -84,10 +84,10 @@ module _ (m : Meaning) (p : Row → Bool) (admits : Admission) (law : Protects m
       ∙ filter-flat_map p (λ x. filter fits (rows x)) (terms m.top))
 
   -- of the answers and of the completions that fit, the same pass p
-  pub walk_part-protected : (r : Row) → length r ≡ variables
+  pub filter-walk_part : (r : Row) → length r ≡ variables
       → filter p (answers (walk_part m admits test ts r)) ≡ filter p (fitting m test ts r)
-  walk_part-protected r long =
-      through (open_variables ts r) r long refl
+  filter-walk_part r long =
+      filter-walk_through (open_variables ts r) r long refl
       ∙ ap (filter p) (sym (filter-filter test (stored m ts) (completions m.top ts r)))
 
 -- the part's walk takes the lowest variable without a value
@@ -99,19 +99,22 @@ walk_takes_the_lowest m admits test ts r v vs long e =
     ∙ flat_map-same (λ x. try v x ∷ through vs (with_value r v x)) (λ x. try v x ∷ part (with_value r v x))
     (admitted m admits ts r v)
     (all-filter (Term m.top)
-    (λ x. ◌≡◌ {A = List (Mark Row)} (try v x ∷ through vs (with_value r v x)) (try v x ∷ part (with_value r v x)))
+    (λ x. ◌≡◌ {A = List (Mark Row)} (try v x ∷ through vs (with_value r v x))
+    (try v x ∷ part (with_value r v x)))
     (admits ts r v)
     (λ x term _. ap (λ ws. try v x ∷ through ws (with_value r v x))
     (sym (open-rest ts r v x vs long e term.positive)))
     (terms m.top) (all-terms m.top))
 
+-- a test that is always true leaves all rows
+pub filter-true : (rows : List Row) → filter (λ _. true) rows ≡ rows
+filter-true rows = filter-all (λ _. true) rows (all-every (λ _. true ≡ true) (λ _. refl) rows)
+
 -- under a lawful admission the walk of a part answers the completions that it fits
-pub walk_part-lawful : (m : Meaning) (admits : Admission) → Lawful m admits → (test : Row → Bool)
+pub answers-walk_part : (m : Meaning) (admits : Admission) → Lawful m admits → (test : Row → Bool)
     (ts : List TriplePattern) (r : Row) → length r ≡ variables
     → answers (walk_part m admits test ts r) ≡ fitting m test ts r
-walk_part-lawful m admits law test ts r long =
-    let all = λ (s : Row). true in
-    let every = λ (rows : List Row). filter-all all rows (all-every (λ s. all s ≡ true) (λ s. refl) rows) in
-    sym (every (answers (walk_part m admits test ts r)))
-    ∙ walk_part-protected m all admits (lawful_protects m admits law) test ts r long
-    ∙ every (fitting m test ts r)
+answers-walk_part m admits law test ts r long =
+    sym (filter-true (answers (walk_part m admits test ts r)))
+    ∙ filter-walk_part m (λ _. true) admits (lawful_protects m admits law) test ts r long
+    ∙ filter-true (fitting m test ts r)

@@ -18,11 +18,13 @@ use Rattle.algebra.specs.Admissions.{Admission, Completes, Lawful}
 use Rattle.algebra.specs.Walk.{answer, answers, follow, otherwise, walk_part, walk_block}
 use Rattle.algebra.specs.Walk.{walk_blocks, walk_group, walk_from, walk}
 use Rattle.algebra.specs.Theorems.{SameUnderAllPruners}
-use Rattle.algebra.proofs.Lists.{all-weaker, all-filter, filter-all, all-every, flat_map-same, filter-flat_map}
+use Rattle.algebra.proofs.Lists.{all-weaker, all-filter, flat_map-same, filter-flat_map}
 use Rattle.algebra.proofs.Listing.{fitting, or_itself, extended, rows_of, answers_of_from, answers_of}
 use Rattle.algebra.proofs.Marks.{answers-append, answers-follow, answers-answer_if}
 use Rattle.algebra.proofs.Assignments.{completions-complete}
-use Rattle.algebra.proofs.Parts.{walk_part-lawful}
+use Rattle.algebra.proofs.Parts.{filter-true, answers-walk_part}
+
+-- rows of sixteen values
 
 -- the row has sixteen values
 abbrev Long : Row → Type 0
@@ -46,66 +48,66 @@ long_or_itself : (r : Row) (rows : List Row) → Long r → AllByRecursion Long 
 long_or_itself r [] long all = (long, tt)
 long_or_itself r (s ∷ rows) long all = all
 
+-- answers
+
 -- the fits, or where there are none the row itself
 answers-otherwise : (r : Row) (rows : List Row) → rows ++ answers (otherwise r rows) ≡ or_itself r rows
 answers-otherwise r [] = refl
 answers-otherwise r (s ∷ rows) = append-nil (s ∷ rows)
 
 module _ (m : Meaning) (e : ℕ → Entry) (admits : Admission) (law : Lawful m admits) where
-  walk_block-answers : (b : Part) (r : Row) → Long r
+  answers-walk_block : (b : Part) (r : Row) → Long r
       → answers (walk_block m e admits b r) ≡ or_itself r (fitting m (passes e b.filter) b.triples r)
-  walk_block-answers b r long =
+  answers-walk_block b r long =
       let marks = walk_part m admits (passes e b.filter) b.triples r in
       answers-append marks (otherwise r (answers marks))
       ∙ answers-otherwise r (answers marks)
-      ∙ ap (or_itself r) (walk_part-lawful m admits law (passes e b.filter) b.triples r long)
+      ∙ ap (or_itself r) (answers-walk_part m admits law (passes e b.filter) b.triples r long)
 
-  walk_blocks-answers : (g : Group) (bs : List Part) (r : Row) → Long r
+  answers-walk_blocks : (g : Group) (bs : List Part) (r : Row) → Long r
       → answers (walk_blocks m e admits g bs r) ≡ filter (passes e g.filter) (extended m e bs r)
-  walk_blocks-answers g [] r long = answers-answer_if (passes e g.filter) r
-  walk_blocks-answers g (b ∷ bs) r long =
+  answers-walk_blocks g [] r long = answers-answer_if (passes e g.filter r) r
+  answers-walk_blocks g (b ∷ bs) r long =
       let on = walk_blocks m e admits g bs in
       let fits = fitting m (passes e b.filter) b.triples r in
       answers-follow on (walk_block m e admits b r)
-      ∙ ap (flat_map (λ s. answers (on s))) (walk_block-answers b r long)
+      ∙ ap (flat_map (λ s. answers (on s))) (answers-walk_block b r long)
       ∙ flat_map-same (λ s. answers (on s)) (λ s. filter (passes e g.filter) (extended m e bs s))
       (or_itself r fits)
       (all-weaker Long (λ s. answers (on s) ≡ filter (passes e g.filter) (extended m e bs s))
-      (walk_blocks-answers g bs) (or_itself r fits)
+      (answers-walk_blocks g bs) (or_itself r fits)
       (long_or_itself r fits long (long_fitting m (passes e b.filter) b.triples r long)))
       ∙ sym (filter-flat_map (passes e g.filter) (extended m e bs) (or_itself r fits))
 
-  walk_group-answers : (g : Group) → answers (walk_group m e admits g) ≡ rows_of m e g
-  walk_group-answers g =
+  answers-walk_group : (g : Group) → answers (walk_group m e admits g) ≡ rows_of m e g
+  answers-walk_group g =
       let on = walk_blocks m e admits g g.blocks in
       let starts = filter (stored m g.required) (completions m.top g.required blank) in
-      let all = λ (r : Row). true in
-      answers-follow on (walk_part m admits all g.required blank)
+      answers-follow on (walk_part m admits (λ _. true) g.required blank)
       ∙ ap (flat_map (λ s. answers (on s)))
-      (walk_part-lawful m admits law all g.required blank refl
-      ∙ filter-all all starts (all-every (λ s. all s ≡ true) (λ s. refl) starts))
+      (answers-walk_part m admits law (λ _. true) g.required blank refl ∙ filter-true starts)
       ∙ flat_map-same (λ s. answers (on s)) (λ s. filter (passes e g.filter) (extended m e g.blocks s)) starts
       (all-weaker Long (λ s. answers (on s) ≡ filter (passes e g.filter) (extended m e g.blocks s))
-      (walk_blocks-answers g g.blocks) starts (long_starts m g.required blank refl))
+      (answers-walk_blocks g g.blocks) starts (long_starts m g.required blank refl))
       ∙ sym (filter-flat_map (passes e g.filter) (extended m e g.blocks) starts)
 
-  walk_from-answers : (a : ℕ) (gs : List Group)
+  answers-walk_from : (a : ℕ) (gs : List Group)
       → answers (walk_from m e admits a gs) ≡ answers_of_from m e a gs
-  walk_from-answers a [] = refl
-  walk_from-answers a (g ∷ gs) =
+  answers-walk_from a [] = refl
+  answers-walk_from a (g ∷ gs) =
       let as_answer : Row → Answer = λ r. record { alternative = a; row = r } in
       let on = λ (r : Row). answer (as_answer r) ∷ [] in
       answers-append (follow on (walk_group m e admits g)) (walk_from m e admits (a + 1) gs)
       ∙ ap (λ rest. rest ++ answers (walk_from m e admits (a + 1) gs))
       (answers-follow on (walk_group m e admits g)
       ∙ flat_map_single as_answer (answers (walk_group m e admits g))
-      ∙ ap (numbered a) (walk_group-answers g))
-      ∙ ap (λ rest. numbered a (rows_of m e g) ++ rest) (walk_from-answers (a + 1) gs)
+      ∙ ap (numbered a) (answers-walk_group g))
+      ∙ ap (λ rest. numbered a (rows_of m e g) ++ rest) (answers-walk_from (a + 1) gs)
 
 -- the walk of a query answers what is listed of it
 pub walk_is_answers : (m : Meaning) (e : ℕ → Entry) (admits : Admission) (q : List Group) → Lawful m admits
     → answers (walk m e admits q) ≡ answers_of m e q
-walk_is_answers m e admits q law = walk_from-answers m e admits law 0 q
+walk_is_answers m e admits q law = answers-walk_from m e admits law 0 q
 
 -- what a lawful admission admits changes no answer
 pub same_under_all_pruners : (m : Meaning) (e : ℕ → Entry) (q : List Group) → SameUnderAllPruners m e q

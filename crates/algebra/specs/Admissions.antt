@@ -52,8 +52,8 @@ look_ahead m ts r v x = term m.top x && list_all (possible m (with_value r v x))
 abbrev pub Allows : Row → Place → ℕ → Type 0
 Allows r p n = (number_at r p ≡ none) ⊎ (number_at r p ≡ n)
 
--- the triple u is one that the pattern can become under the row: each of its numbers is the one at the pattern's
--- place, where that has one, and two places that are the same variable have the same number
+-- the pattern can become the triple u under the row: each number of u is the one that the pattern has at that
+-- place, if it has one, and places that are the same variable, or the same term, have the same number in u
 pub record Matches (r : Row) (t : TriplePattern) (u : Triple) : Type 0 where
   pub subject : Allows r t.subject u.subject
   pub property : Allows r t.property u.property

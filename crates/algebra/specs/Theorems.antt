@@ -55,7 +55,8 @@ pub record OnceInEach (m : Meaning) (e : ℕ → Entry) (q : List Group) : Type 
 abbrev pub PrunersLawful : Type 0
 PrunersLawful = (m : Meaning) → Lawful m (every_term m) × Lawful m (look_ahead m)
 
--- what the look-ahead asks of a pattern, without rows: it is possible exactly if some triple of the store matches
+-- what the look-ahead asks of a pattern, said without completions: it is possible exactly if some triple of
+-- the store matches it
 abbrev pub LookAheadInWords : Type 0
 LookAheadInWords = (m : Meaning) (r : Row) (t : TriplePattern) → Sound m → length r ≡ variables
     → lawful_triple t ≡ true

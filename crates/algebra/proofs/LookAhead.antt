@@ -1,0 +1,221 @@
+-- What the look-ahead asks of a pattern: that some triple of the store matches it. Assumes nothing.
+--     look_ahead_in_words     a pattern is possible exactly if a triple of the store matches it
+use Rattle.std.proofs.Common.{◌≡◌, ℕ, ◌<◌, Bool, true, false, cond, ◌||◌, ◌≢◌}
+use Rattle.std.proofs.Common.{List, [], ◌∷◌, map, length, refl, sym, ap, ◌∙◌, subst, inl, inr, ⊎_elim, arith}
+use Rattle.std.proofs.Common.{leb}
+use Rattle.std.proofs.lemmas.Bool.{cases_Bool, cases_lt, cond-true, and_parts, and_from, or_left}
+use Rattle.std.proofs.lemmas.Bool.{or_right, or_from, cond_both, eqb-true, eq-eqb, leb-true, both_ways}
+use Rattle.std.proofs.lemmas.List.FromFn.{length-map-range_with_len, get_or-map-range_with_len}
+use Rattle.std.specs.List.{AllByRecursion, list_any}
+use Rattle.query.specs.declared.place.Place.{Place}
+use Rattle.query.specs.declared.place.Place.TheVariants as place
+use Rattle.query.specs.declared.pattern.TriplePattern.{TriplePattern}
+use Rattle.query.specs.Lawful.{mentions, is_variable, lawful_triple}
+use Rattle.query.specs.Limits.{variables, most_variable, most_term, lawful_place}
+use Rattle.triples.specs.declared.triple.Triple.{Triple}
+use Rattle.triples.specs.Meaning.{Term, Terms}
+use Rattle.filter.specs.Rows.{Row, none, value, has_value, number_at}
+use Rattle.algebra.specs.Patterns.{triple_under, stored, numbers}
+use Rattle.algebra.specs.Patterns.{completions}
+use Rattle.algebra.specs.Admissions.{Completes, Allows, Matches}
+use Rattle.algebra.specs.Theorems.{LookAheadInWords}
+use Rattle.algebra.proofs.Pruning.{some-from_has_value, pattern-possible}
+use Rattle.algebra.proofs.Assignments.{completions-complete}
+use Rattle.algebra.proofs.Rows.{value-past}
+use Rattle.algebra.proofs.Rows.{has_value-no}
+
+-- an element that passes
+
+-- an element of which P holds and that passes
+record Found {A : Type 0} (P : A → Type 0) (p : A → Bool) : Type 0 where
+  element : A
+  holds : P element
+  passes : p element ≡ true
+
+any-found : {A : Type 0} (P : A → Type 0) (p : A → Bool) (xs : List A) → AllByRecursion P xs
+    → list_any p xs ≡ true → Found P p
+any-found P p [] all h = absurd (both_ways false refl h)
+any-found P p (x ∷ xs) all h =
+    ⊎_elim
+    (λ t. record { element = x; holds = all.0; passes = t })
+    (λ f. any-found P p xs all.1 (sym (ap (λ b. b || list_any p xs) f) ∙ h))
+    (cases_Bool (p x))
+
+-- places and triples
+
+same_place : (v : ℕ) (p q : Place) → is_variable v p ≡ true → is_variable v q ≡ true → p ≡ q
+same_place v (place.Variable a) (place.Variable b) h k =
+    let e : a ≡ b = omega (arith, eqb-true v a h, eqb-true v b k) in ap place.Variable e
+same_place v (place.Variable a) (place.Term b) h k = absurd (both_ways false refl k)
+same_place v (place.Term a) q h k = absurd (both_ways false refl h)
+
+same_triple : (a b : Triple) → a.subject ≡ b.subject → a.property ≡ b.property → a.object ≡ b.object → a ≡ b
+same_triple a b subject property object =
+    let build : ℕ → ℕ → ℕ → Triple = λ s p o. record { subject = s; property = p; object = o } in
+    ap (λ s. build s a.property a.object) subject
+    ∙ ap (λ p. build b.subject p a.object) property
+    ∙ ap (build b.subject b.property) object
+
+-- from a completion to a triple
+
+-- a value that a completion has at a place is one that the place allows
+allows-completed : (top : ℕ) (ts : List TriplePattern) (r s : Row) → Completes top ts r s → (p : Place)
+    → Allows r p (number_at s p)
+allows-completed top ts r s done (place.Term n) = inr refl
+allows-completed top ts r s done (place.Variable v) =
+    ⊎_elim (λ has. inr (sym (done.kept v (inr (inr (some-from_has_value r v has))))))
+    (λ lacks. inl (has_value-no r v lacks)) (cases_Bool (has_value r v))
+
+matched-completed : (top : ℕ) (ts : List TriplePattern) (r s : Row) → Completes top ts r s
+    → (t : TriplePattern) → Matches r t (triple_under s t)
+matched-completed top ts r s done t = record {
+  subject = allows-completed top ts r s done t.subject;
+  property = allows-completed top ts r s done t.property;
+  object = allows-completed top ts r s done t.object;
+  subject_property = ap (number_at s);
+  subject_object = ap (number_at s);
+  property_object = ap (number_at s);
+}
+
+-- what a place allows is the value that the variable there has
+allowed-value : (r : Row) (p : Place) (n v : ℕ) → is_variable v p ≡ true → Allows r p n → value r v ≢ none
+    → n ≡ value r v
+allowed-value r (place.Term m) n v here allows has = absurd (both_ways false refl here)
+allowed-value r (place.Variable w) n v here allows has =
+    let e : v ≡ w = eqb-true v w here in
+    ⊎_elim
+    (λ nothing. absurd (has (ap (value r) e ∙ nothing)))
+    (λ same. sym same ∙ ap (value r) (sym e))
+    allows
+
+-- from a triple to a completion
+
+-- a variable at a place of the pattern is in it
+module _ (t : TriplePattern) (v : ℕ) where
+  at_subject : is_variable v t.subject ≡ true → mentions v (t ∷ []) ≡ true
+  at_subject h = or_left _ false (or_left _ _ h)
+
+  at_property : is_variable v t.property ≡ true → mentions v (t ∷ []) ≡ true
+  at_property h = or_left _ false (or_right (is_variable v t.subject) _ (or_left _ _ h))
+
+  at_object : is_variable v t.object ≡ true → mentions v (t ∷ []) ≡ true
+  at_object h =
+      or_left _ false (or_right (is_variable v t.subject) _ (or_right (is_variable v t.property) _ h))
+
+-- what the row that has the numbers of u at the variables of t, and is like r elsewhere, gives v
+abbrev picked : Row → TriplePattern → Triple → ℕ → ℕ
+picked r t u v =
+    cond (is_variable v t.subject) u.subject
+    (cond (is_variable v t.property) u.property (cond (is_variable v t.object) u.object (value r v)))
+
+-- that row
+abbrev filled : Row → TriplePattern → Triple → Row
+filled r t u = map (picked r t u) numbers
+
+module _ (r : Row) (t : TriplePattern) (u : Triple) where
+  picked-each : (v : ℕ) (P : ℕ → Type 0) → (is_variable v t.subject ≡ true → P u.subject)
+      → (is_variable v t.property ≡ true → P u.property) → (is_variable v t.object ≡ true → P u.object)
+      → (mentions v (t ∷ []) ≡ false → P (value r v)) → P (picked r t u v)
+  picked-each v P subject property object other =
+      let last = cond (is_variable v t.object) u.object (value r v) in
+      let later = cond (is_variable v t.property) u.property last in
+      cond_both (is_variable v t.subject) u.subject later P subject
+      (λ a. cond_both (is_variable v t.property) u.property last P property
+      (λ b. cond_both (is_variable v t.object) u.object (value r v) P object
+      (λ c. other (or_from _ false (or_from (is_variable v t.subject) _ a
+      (or_from (is_variable v t.property) _ b c)) refl))))
+
+  length-filled : length (filled r t u) ≡ variables
+  length-filled = length-map-range_with_len (picked r t u) 0 variables
+
+  value-filled : (v : ℕ) → v < variables → value (filled r t u) v ≡ picked r t u v
+  value-filled v below = get_or-map-range_with_len (picked r t u) 0 variables v v none below (omega arith)
+
+  number_at-filled : (p : Place) (n : ℕ) → lawful_place p ≡ true → Allows r p n
+      → ((v : ℕ) → is_variable v p ≡ true → picked r t u v ≡ n) → number_at (filled r t u) p ≡ n
+  number_at-filled (place.Variable v) n ok allows is =
+      let below = leb-true v most_variable (and_parts (leb 0 v) (leb v most_variable) ok).1 in
+      value-filled v (omega (arith, below)) ∙ is v (eq-eqb v v refl)
+  number_at-filled (place.Term x) n ok allows is =
+      ⊎_elim
+      (λ nothing. let positive = leb-true 1 x (and_parts (leb 1 x) (leb x most_term) ok).0 in
+      absurd (omega (arith, positive, nothing)))
+      (λ same. same) allows
+
+module _ (r : Row) (t : TriplePattern) (u : Triple) (matches : Matches r t u) where
+  picked-subject : (v : ℕ) → is_variable v t.subject ≡ true → picked r t u v ≡ u.subject
+  picked-subject v h = cond-true (is_variable v t.subject) u.subject _ h
+
+  picked-property : (v : ℕ) → is_variable v t.property ≡ true → picked r t u v ≡ u.property
+  picked-property v h =
+      picked-each r t u v (λ n. n ≡ u.property)
+      (λ k. matches.subject_property (same_place v t.subject t.property k h))
+      (λ k. refl)
+      (λ k. sym (matches.property_object (same_place v t.property t.object h k)))
+      (λ free. absurd (both_ways (mentions v (t ∷ [])) free (at_property t v h)))
+
+  picked-object : (v : ℕ) → is_variable v t.object ≡ true → picked r t u v ≡ u.object
+  picked-object v h =
+      picked-each r t u v (λ n. n ≡ u.object)
+      (λ k. matches.subject_object (same_place v t.subject t.object k h))
+      (λ k. matches.property_object (same_place v t.property t.object k h))
+      (λ k. refl)
+      (λ free. absurd (both_ways (mentions v (t ∷ [])) free (at_object t v h)))
+
+  triple_under-filled : lawful_triple t ≡ true → triple_under (filled r t u) t ≡ u
+  triple_under-filled lawful =
+      let places = and_parts (lawful_place t.subject) _ lawful in
+      let others = and_parts (lawful_place t.property) (lawful_place t.object) places.1 in
+      same_triple (triple_under (filled r t u) t) u
+      (number_at-filled r t u t.subject u.subject places.0 matches.subject picked-subject)
+      (number_at-filled r t u t.property u.property others.0 matches.property picked-property)
+      (number_at-filled r t u t.object u.object others.1 matches.object picked-object)
+
+  -- a value that the row has is kept
+  picked-kept : (v : ℕ) → value r v ≢ none → picked r t u v ≡ value r v
+  picked-kept v some =
+      picked-each r t u v (λ n. n ≡ value r v)
+      (λ k. allowed-value r t.subject u.subject v k matches.subject some)
+      (λ k. allowed-value r t.property u.property v k matches.property some)
+      (λ k. allowed-value r t.object u.object v k matches.object some)
+      (λ k. refl)
+
+  -- so is what the row has for a variable that is not in the pattern
+  picked-other : (v : ℕ) → mentions v (t ∷ []) ≡ false → picked r t u v ≡ value r v
+  picked-other v free =
+      picked-each r t u v (λ n. n ≡ value r v)
+      (λ k. absurd (both_ways (mentions v (t ∷ [])) free (at_subject t v k)))
+      (λ k. absurd (both_ways (mentions v (t ∷ [])) free (at_property t v k)))
+      (λ k. absurd (both_ways (mentions v (t ∷ [])) free (at_object t v k)))
+      (λ k. refl)
+
+  filled-completes : (top : ℕ) → Terms top u → length r ≡ variables → Completes top (t ∷ []) r (filled r t u)
+  filled-completes top terms long = record {
+    long = length-filled r t u ∙ sym long;
+    given = λ v below inside nothing. subst (Term top) (sym (value-filled r t u v below))
+        (picked-each r t u v (Term top) (λ k. terms.subject) (λ k. terms.property) (λ k. terms.object)
+        (λ free. absurd (both_ways (mentions v (t ∷ [])) free inside)));
+    kept = λ v h. ⊎_elim
+        (λ below. value-filled r t u v below
+        ∙ ⊎_elim (λ past. absurd (omega (arith, below, past))) (⊎_elim (picked-other v) (picked-kept v)) h)
+        (λ past. value-past (filled r t u) v (omega (arith, past, length-filled r t u))
+        ∙ sym (value-past r v (omega (arith, past, long))))
+        (cases_lt v variables);
+  }
+
+-- a pattern is possible exactly if some triple of the store matches it
+pub look_ahead_in_words : LookAheadInWords
+look_ahead_in_words m r t sound long lawful = (
+  λ h. let f = any-found (Completes m.top (t ∷ []) r) (stored m (t ∷ [])) (completions m.top (t ∷ []) r)
+      (completions-complete m.top (t ∷ []) r long) h in
+      let held = and_parts (m.has (triple_under f.element t)) true f.passes in (
+        triple_under f.element t,
+        held.0,
+        matched-completed m.top (t ∷ []) r f.element f.holds t,
+      ),
+  λ u has matches.
+      pattern-possible m (t ∷ []) r (filled r t u)
+      (filled-completes r t u matches m.top (sound.terms u has) long) t (λ v h. h)
+      (and_from (m.has (triple_under (filled r t u) t)) true
+      (ap m.has (triple_under-filled r t u matches lawful) ∙ has) refl),
+)
