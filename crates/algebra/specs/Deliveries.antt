@@ -8,7 +8,6 @@ use Rattle.query.specs.Parts.{Group}
 use Rattle.triples.specs.declared.selector.Selector.{Selector}
 use Rattle.triples.specs.declared.triple.Triple.{Triple}
 use Rattle.triples.specs.Meaning.{Meaning, listed}
-use Rattle.filter.specs.Rows.{Row}
 use Rattle.algebra.specs.Answers.{Answer, answers_to}
 use Rattle.algebra.specs.Admissions.{Admission}
 use Rattle.algebra.specs.Packing.{packed}
@@ -33,14 +32,19 @@ names n = unlisted
 -- what lot 1 went into, and where that went on to, if anywhere: required is (1, 4, variable 0), and the one
 -- block is (variable 0, 5, variable 1)
 abbrev pub onward : List ℕ
-onward =
-    0x01 ∷ 0x01 ∷ 0x02 ∷ 0x08 ∷ 0x01 ∷ 0x01 ∷ 0x01 ∷ 0x01 ∷ 0x0A ∷ 0x03 ∷ 0x00 ∷ 0x00 ∷ []
+onward = 0x01 ∷ 0x01 ∷ 0x02 ∷ 0x08 ∷ 0x01 ∷ 0x01 ∷ 0x01 ∷ 0x01 ∷ 0x0A ∷ 0x03 ∷ 0x00 ∷ 0x00 ∷ []
 
--- the same, but only what went nowhere: its group filter has the nodes bound(variable 1), not(node 0)
+-- onward, but only what went on nowhere: its group filter has the nodes bound(variable 1), not(node 0)
 abbrev pub kept_back : List ℕ
 kept_back =
     0x01 ∷ 0x01 ∷ 0x02 ∷ 0x08 ∷ 0x01 ∷ 0x01 ∷ 0x01 ∷ 0x01 ∷ 0x0A ∷ 0x03 ∷ 0x00
     ∷ 0x02 ∷ 0x03 ∷ 0x01 ∷ 0x04 ∷ 0x00 ∷ []
+
+-- onward with a filter in its block, less(variable 0, variable 1), which is an error for two names
+abbrev pub onward_by_less : List ℕ
+onward_by_less =
+    0x01 ∷ 0x01 ∷ 0x02 ∷ 0x08 ∷ 0x01 ∷ 0x01 ∷ 0x01 ∷ 0x01 ∷ 0x0A ∷ 0x03
+    ∷ 0x01 ∷ 0x02 ∷ 0x01 ∷ 0x03 ∷ 0x00 ∷ []
 
 -- what went into what: (variable 0, 4, variable 1)
 abbrev pub went_into : List ℕ
@@ -52,17 +56,12 @@ nothing_asked = 0x01 ∷ 0x00 ∷ 0x00 ∷ 0x00 ∷ []
 
 -- two alternatives, and both ask where batch 2 went on to: (2, 5, variable 0)
 abbrev pub asked_twice : List ℕ
-asked_twice =
-    0x02 ∷ 0x01 ∷ 0x04 ∷ 0x0A ∷ 0x01 ∷ 0x00 ∷ 0x00 ∷ 0x01 ∷ 0x04 ∷ 0x0A ∷ 0x01 ∷ 0x00 ∷ 0x00 ∷ []
+asked_twice = 0x02 ∷ 0x01 ∷ 0x04 ∷ 0x0A ∷ 0x01 ∷ 0x00 ∷ 0x00 ∷ 0x01 ∷ 0x04 ∷ 0x0A ∷ 0x01 ∷ 0x00 ∷ 0x00 ∷ []
 
--- nothing is required, and variable 0 is in both blocks: (variable 0, 1, variable 1), (variable 0, 1, variable 2)
+-- nothing is required, and variable 0 is in both blocks: (variable 0, 1, variable 1) and
+-- (variable 0, 1, variable 2)
 abbrev pub shared : List ℕ
-shared =
-    0x01 ∷ 0x00 ∷ 0x02 ∷ 0x01 ∷ 0x01 ∷ 0x02 ∷ 0x03 ∷ 0x00 ∷ 0x01 ∷ 0x01 ∷ 0x02 ∷ 0x05 ∷ 0x00 ∷ 0x00 ∷ []
-
--- an answer of alternative a
-abbrev pub in_alternative : ℕ → Row → Answer
-in_alternative a r = record { alternative = a; row = r }
+shared = 0x01 ∷ 0x00 ∷ 0x02 ∷ 0x01 ∷ 0x01 ∷ 0x02 ∷ 0x03 ∷ 0x00 ∷ 0x01 ∷ 0x01 ∷ 0x02 ∷ 0x05 ∷ 0x00 ∷ 0x00 ∷ []
 
 -- what f says of the query; none where there is none
 abbrev pub of_query : {A : Type 0} → (List Group → A) → Verdict → Option A
@@ -73,13 +72,9 @@ of_query f (rejected refusal place) = None
 abbrev pub of_bytes : {A : Type 0} → (List Group → A) → List ℕ → Option A
 of_bytes f bytes = of_query f (verdict bytes)
 
--- the walk over the deliveries, which asks the admission at their meaning
+-- the marks of the walk over the deliveries
 abbrev pub walked : (Meaning → Admission) → List Group → List (Mark Answer)
 walked admits q = walk deliveries names (admits deliveries) q
-
--- the marks of the walk
-abbrev pub marks_of : (Meaning → Admission) → List ℕ → Option (List (Mark Answer))
-marks_of admits bytes = of_bytes (walked admits) bytes
 
 -- how many of the marks are tries
 abbrev pub tries_in : {A : Type 0} → List (Mark A) → ℕ
@@ -87,14 +82,14 @@ tries_in [] = 0
 tries_in (try v x ∷ ms) = tries_in ms + 1
 tries_in (answer a ∷ ms) = tries_in ms
 
--- how many tries the walk makes
-abbrev pub tries_of : (Meaning → Admission) → List ℕ → Option ℕ
-tries_of admits bytes = of_bytes (λ q. tries_in (walked admits q)) bytes
+-- how many tries the walk over the deliveries makes
+abbrev pub tries : (Meaning → Admission) → List Group → ℕ
+tries admits q = tries_in (walked admits q)
 
--- the answers of the walk, each as bytes
-abbrev pub packed_of : (Meaning → Admission) → List ℕ → Option (List (List ℕ))
-packed_of admits bytes = of_bytes (λ q. map packed (answers (walked admits q))) bytes
+-- the answers of the walk over the deliveries, each as bytes
+abbrev pub packed_answers : (Meaning → Admission) → List Group → List (List ℕ)
+packed_answers admits q = map packed (answers (walked admits q))
 
 -- the answers that the algebra gives over the deliveries
-abbrev pub answers_defined : List ℕ → Option (List Answer)
-answers_defined bytes = of_bytes (answers_to deliveries names) bytes
+abbrev pub defined : List Group → List Answer
+defined q = answers_to deliveries names q

@@ -1,5 +1,5 @@
 -- Worked examples: numbers, seeks, and queries by their bytes over a small store. Assumes nothing.
-use Rattle.std.specs.Prelude.{◌≡◌, [], ◌∷◌, length, Some, None}
+use Rattle.std.specs.Prelude.{◌≡◌, ℕ, [], ◌∷◌, length, Some, None}
 use Rattle.refusal.specs.declared.refusal.Refusal.TheVariants.{Malformed, SharedByBlocks}
 use Rattle.refusal.specs.Numbers.{published}
 use Rattle.varint.specs.Encode.{encode}
@@ -10,22 +10,31 @@ use Rattle.triples.specs.Seeks.{Sought}
 use Rattle.filter.specs.Rows.{Row}
 use Rattle.algebra.specs.Admissions.{every_term, look_ahead}
 use Rattle.algebra.specs.Patterns.{blank}
+use Rattle.algebra.specs.Answers.{Answer}
 use Rattle.algebra.specs.Walk.{try, answer}
-use Rattle.algebra.specs.Deliveries.{triple, selector, deliveries, onward, kept_back, went_into}
-use Rattle.algebra.specs.Deliveries.{nothing_asked, asked_twice, shared, in_alternative, marks_of, tries_of}
-use Rattle.algebra.specs.Deliveries.{packed_of, answers_defined}
+use Rattle.algebra.specs.Deliveries.{triple, selector, deliveries, onward, kept_back, onward_by_less}
+use Rattle.algebra.specs.Deliveries.{went_into, nothing_asked, asked_twice, shared}
+use Rattle.algebra.specs.Deliveries.{of_bytes, walked, tries, packed_answers, defined}
 
 -- variable 0 is batch 2, variable 1 is farm 6
-abbrev pub batch_at_farm : Row
-batch_at_farm = 2 ∷ 6 ∷ 0 ∷ 0 ∷ 0 ∷ 0 ∷ 0 ∷ 0 ∷ 0 ∷ 0 ∷ 0 ∷ 0 ∷ 0 ∷ 0 ∷ 0 ∷ 0 ∷ []
+abbrev pub first_batch_at_farm : Row
+first_batch_at_farm = 2 ∷ 6 ∷ 0 ∷ 0 ∷ 0 ∷ 0 ∷ 0 ∷ 0 ∷ 0 ∷ 0 ∷ 0 ∷ 0 ∷ 0 ∷ 0 ∷ 0 ∷ 0 ∷ []
+
+-- variable 0 is batch 2
+abbrev pub first_batch_alone : Row
+first_batch_alone = 2 ∷ 0 ∷ 0 ∷ 0 ∷ 0 ∷ 0 ∷ 0 ∷ 0 ∷ 0 ∷ 0 ∷ 0 ∷ 0 ∷ 0 ∷ 0 ∷ 0 ∷ 0 ∷ []
 
 -- variable 0 is batch 3
-abbrev pub batch_alone : Row
-batch_alone = 3 ∷ 0 ∷ 0 ∷ 0 ∷ 0 ∷ 0 ∷ 0 ∷ 0 ∷ 0 ∷ 0 ∷ 0 ∷ 0 ∷ 0 ∷ 0 ∷ 0 ∷ 0 ∷ []
+abbrev pub second_batch_alone : Row
+second_batch_alone = 3 ∷ 0 ∷ 0 ∷ 0 ∷ 0 ∷ 0 ∷ 0 ∷ 0 ∷ 0 ∷ 0 ∷ 0 ∷ 0 ∷ 0 ∷ 0 ∷ 0 ∷ 0 ∷ []
 
 -- variable 0 is farm 6
 abbrev pub farm_alone : Row
 farm_alone = 6 ∷ 0 ∷ 0 ∷ 0 ∷ 0 ∷ 0 ∷ 0 ∷ 0 ∷ 0 ∷ 0 ∷ 0 ∷ 0 ∷ 0 ∷ 0 ∷ 0 ∷ 0 ∷ []
+
+-- an answer of alternative a
+abbrev pub in_alternative : ℕ → Row → Answer
+in_alternative a r = record { alternative = a; row = r }
 
 -- the examples, each named by what it shows
 pub record WorkedExamples : Type 0 where
@@ -49,29 +58,34 @@ pub record WorkedExamples : Type 0 where
   pub seek_finds_none_behind_the_last : Sought deliveries.has (selector 0 4 0) (triple 1 4 4) None
   -- batch 2 is tried and then farm 6, which gives an answer; batch 3 is tried, nothing is worth a try for
   -- where it went on to, and the row goes on without
-  pub block_extends_or_is_left : marks_of look_ahead onward
-      ≡ Some (try 0 2 ∷ try 1 6 ∷ answer (in_alternative 0 batch_at_farm)
-      ∷ try 0 3 ∷ answer (in_alternative 0 batch_alone) ∷ [])
-  -- the two answers as bytes: alternative 0, variables 0 and 1, 2 and 6; alternative 0, variable 0, 3
-  pub answers_packed : packed_of look_ahead onward
+  pub block_extends_or_is_left : of_bytes (walked look_ahead) onward
+      ≡ Some (try 0 2 ∷ try 1 6 ∷ answer (in_alternative 0 first_batch_at_farm)
+      ∷ try 0 3 ∷ answer (in_alternative 0 second_batch_alone) ∷ [])
+  -- the two answers as bytes: alternative 0, variables 0 and 1 (mask 3), their values 2 and 6; alternative 0,
+  -- variable 0 (mask 1), its value 3
+  pub answers_packed : of_bytes (packed_answers look_ahead) onward
       ≡ Some ((0x00 ∷ 0x03 ∷ 0x02 ∷ 0x06 ∷ []) ∷ (0x00 ∷ 0x01 ∷ 0x03 ∷ []) ∷ [])
   -- the algebra gives the rows that the walk lists, here in the same order
-  pub algebra_gives_the_rows_walked : answers_defined onward
-      ≡ Some (in_alternative 0 batch_at_farm ∷ in_alternative 0 batch_alone ∷ [])
+  pub algebra_gives_the_rows_walked : of_bytes defined onward
+      ≡ Some (in_alternative 0 first_batch_at_farm ∷ in_alternative 0 second_batch_alone ∷ [])
   -- where every term is tried, it is six tries for variable 0, and six more for variable 1 behind each of the
   -- two batches
-  pub every_term_tried : tries_of every_term onward ≡ Some 18
-  -- six tries for variable 0 and six behind each of them; one and two where nothing else is possible
-  pub every_pair_tried : tries_of every_term went_into ≡ Some 42
-  pub possible_alone_tried : tries_of look_ahead went_into ≡ Some 3
+  pub every_term_tried : of_bytes (tries every_term) onward ≡ Some 18
+  -- six tries for variable 0 and six behind each of them; looking ahead, lot 1 and its two batches
+  pub every_pair_tried : of_bytes (tries every_term) went_into ≡ Some 42
+  pub only_what_matches_tried : of_bytes (tries look_ahead) went_into ≡ Some 3
   -- the filter asks that variable 1 has no value: the row that a block extended does not pass it
-  pub extended_row_filtered : packed_of look_ahead kept_back ≡ Some ((0x00 ∷ 0x01 ∷ 0x03 ∷ []) ∷ [])
+  pub extended_row_filtered : of_bytes (packed_answers look_ahead) kept_back
+      ≡ Some ((0x00 ∷ 0x01 ∷ 0x03 ∷ []) ∷ [])
+  -- an error in a block's filter is no fit: both rows go on without the block
+  pub error_leaves_the_row : of_bytes defined onward_by_less
+      ≡ Some (in_alternative 0 first_batch_alone ∷ in_alternative 0 second_batch_alone ∷ [])
   -- who asks nothing gets one answer, the row without values, and nothing is tried
-  pub nothing_asked_answered_once : marks_of every_term nothing_asked
+  pub nothing_asked_answered_once : of_bytes (walked every_term) nothing_asked
       ≡ Some (answer (in_alternative 0 blank) ∷ [])
-  pub blank_row_packed : packed_of every_term nothing_asked ≡ Some ((0x00 ∷ 0x00 ∷ []) ∷ [])
+  pub blank_row_packed : of_bytes (packed_answers every_term) nothing_asked ≡ Some ((0x00 ∷ 0x00 ∷ []) ∷ [])
   -- two equal alternatives have the same row once in each
-  pub same_row_once_in_each : answers_defined asked_twice
+  pub same_row_once_in_each : of_bytes defined asked_twice
       ≡ Some (in_alternative 0 farm_alone ∷ in_alternative 1 farm_alone ∷ [])
   -- a variable of two blocks that nothing requires is refused, at the end of the bytes, by the number 17
   pub shared_refused : verdict shared ≡ rejected SharedByBlocks (length shared)
