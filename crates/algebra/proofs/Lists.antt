@@ -1,0 +1,198 @@
+-- Laws of lists by the operation: All, list_any, filter, flat_map, and the weight of a list, which is the total
+-- of a number given to each of its elements. Assumes nothing.
+use Rattle.std.proofs.Common.{◌≡◌, ℕ, ◌+◌, Bool, true, false, cond, ◌&&◌, List, [], ◌∷◌, ◌++◌, map}
+use Rattle.std.proofs.Common.{refl, sym, ap, ◌∙◌, subst, ⊎_elim, arith, count_by}
+use Rattle.std.proofs.lemmas.Bool.{cases_Bool, cond-true, cond-false}
+use Rattle.std.proofs.lemmas.Grind.{flat_map-append}
+use Rattle.std.proofs.lemmas.List.Elements.{filter-append}
+use Rattle.std.proofs.lemmas.List.{map-append}
+use Rattle.std.proofs.lemmas.List.Sums.{sum_by-cons}
+use Rattle.std.specs.List.{filter, flat_map, AllByRecursion}
+use Rattle.query.specs.Lawful.{total}
+
+-- filter, at a first element
+
+module _ {A : Type 0} (p : A → Bool) (x : A) (xs : List A) where
+  pub filter-yes : p x ≡ true → filter p (x ∷ xs) ≡ x ∷ filter p xs
+  filter-yes t = cond-true (p x) (x ∷ filter p xs) (filter p xs) t
+
+  pub filter-no : p x ≡ false → filter p (x ∷ xs) ≡ filter p xs
+  filter-no f = cond-false (p x) (x ∷ filter p xs) (filter p xs) f
+
+-- All
+
+module _ {A : Type 0} where
+  pub all-append : (P : A → Type 0) (xs ys : List A) → AllByRecursion P xs → AllByRecursion P ys
+      → AllByRecursion P (xs ++ ys)
+  all-append P [] ys h k = k
+  all-append P (x ∷ xs) ys h k = (h.0, all-append P xs ys h.1 k)
+
+  pub all-weaker : (P Q : A → Type 0) → ((x : A) → P x → Q x) → (xs : List A) → AllByRecursion P xs
+      → AllByRecursion Q xs
+  all-weaker P Q to [] h = tt
+  all-weaker P Q to (x ∷ xs) h = (to x h.0, all-weaker P Q to xs h.1)
+
+  pub all-every : (P : A → Type 0) → ((x : A) → P x) → (xs : List A) → AllByRecursion P xs
+  all-every P h [] = tt
+  all-every P h (x ∷ xs) = (h x, all-every P h xs)
+
+  -- what P and the test give of an element, all have that pass it
+  pub all-filter : (P Q : A → Type 0) (p : A → Bool) → ((x : A) → P x → p x ≡ true → Q x) → (xs : List A)
+      → AllByRecursion P xs
+      → AllByRecursion Q (filter p xs)
+  all-filter P Q p to [] h = tt
+  all-filter P Q p to (x ∷ xs) h =
+      ⊎_elim
+      (λ t. subst (AllByRecursion Q) (sym (filter-yes p x xs t)) (to x h.0 t, all-filter P Q p to xs h.1))
+      (λ f. subst (AllByRecursion Q) (sym (filter-no p x xs f)) (all-filter P Q p to xs h.1))
+      (cases_Bool (p x))
+
+  pub all-map : {B : Type 0} (P : A → Type 0) (f : B → A) (xs : List B) → AllByRecursion (λ x. P (f x)) xs
+      → AllByRecursion P (map f xs)
+  all-map P f [] h = tt
+  all-map P f (x ∷ xs) h = (h.0, all-map P f xs h.1)
+
+  pub all-flat_map : {B : Type 0} (P : A → Type 0) (f : B → List A) (xs : List B)
+      → AllByRecursion (λ x. AllByRecursion P (f x)) xs → AllByRecursion P (flat_map f xs)
+  all-flat_map P f [] h = tt
+  all-flat_map P f (x ∷ xs) h = all-append P (f x) (flat_map f xs) h.0 (all-flat_map P f xs h.1)
+
+-- flat_map
+
+module _ {A B : Type 0} where
+  pub flat_map-like : (f g : A → List B) → ((x : A) → f x ≡ g x) → (xs : List A) → flat_map f xs ≡ flat_map g xs
+  flat_map-like f g e [] = refl
+  flat_map-like f g e (x ∷ xs) = ap (λ ys. ys ++ flat_map f xs) (e x) ∙ ap (λ ys. g x ++ ys) (flat_map-like f g e xs)
+
+  -- the same where f and g agree on the elements
+  pub flat_map-same : (f g : A → List B) (xs : List A) → AllByRecursion (λ x. f x ≡ g x) xs
+      → flat_map f xs ≡ flat_map g xs
+  flat_map-same f g [] h = refl
+  flat_map-same f g (x ∷ xs) h =
+      ap (λ ys. ys ++ flat_map f xs) h.0 ∙ ap (λ ys. g x ++ ys) (flat_map-same f g xs h.1)
+
+  pub flat_map-flat_map : {C : Type 0} (f : B → List C) (g : A → List B) (xs : List A)
+      → flat_map f (flat_map g xs) ≡ flat_map (λ x. flat_map f (g x)) xs
+  flat_map-flat_map f g [] = refl
+  flat_map-flat_map f g (x ∷ xs) =
+      flat_map-append f (g x) (flat_map g xs)
+      ∙ ap (λ ys. flat_map f (g x) ++ ys) (flat_map-flat_map f g xs)
+
+  -- the elements that do not pass a test give nothing
+  pub flat_map-filter : (f : A → List B) (p : A → Bool) (xs : List A)
+      → flat_map f (filter p xs) ≡ flat_map (λ x. cond (p x) (f x) []) xs
+  flat_map-filter f p [] = refl
+  flat_map-filter f p (x ∷ xs) =
+      ⊎_elim
+      (λ t. ap (flat_map f) (filter-yes p x xs t) ∙ ap (λ ys. f x ++ ys) (flat_map-filter f p xs)
+      ∙ ap (λ ys. ys ++ flat_map (λ y. cond (p y) (f y) []) xs) (sym (cond-true (p x) (f x) [] t)))
+      (λ n. ap (flat_map f) (filter-no p x xs n) ∙ flat_map-filter f p xs
+      ∙ ap (λ ys. ys ++ flat_map (λ y. cond (p y) (f y) []) xs) (sym (cond-false (p x) (f x) [] n)))
+      (cases_Bool (p x))
+
+  pub map-flat_map : {C : Type 0} (h : B → C) (f : A → List B) (xs : List A)
+      → map h (flat_map f xs) ≡ flat_map (λ x. map h (f x)) xs
+  map-flat_map h f [] = refl
+  map-flat_map h f (x ∷ xs) =
+      map-append h (f x) (flat_map f xs) ∙ ap (λ ys. map h (f x) ++ ys) (map-flat_map h f xs)
+
+-- filter
+
+module _ {A : Type 0} where
+  pub filter-flat_map : {B : Type 0} (p : A → Bool) (f : B → List A) (xs : List B)
+      → filter p (flat_map f xs) ≡ flat_map (λ x. filter p (f x)) xs
+  filter-flat_map p f [] = refl
+  filter-flat_map p f (x ∷ xs) =
+      filter-append p (f x) (flat_map f xs) ∙ ap (λ ys. filter p (f x) ++ ys) (filter-flat_map p f xs)
+
+  -- the same where the tests agree on the elements
+  pub filter-same : (p q : A → Bool) (xs : List A) → AllByRecursion (λ x. p x ≡ q x) xs
+      → filter p xs ≡ filter q xs
+  filter-same p q [] h = refl
+  filter-same p q (x ∷ xs) h =
+      ap (λ b. cond b (x ∷ filter p xs) (filter p xs)) h.0
+      ∙ ap (λ ys. cond (q x) (x ∷ ys) ys) (filter-same p q xs h.1)
+
+  pub filter-like : (p q : A → Bool) → ((x : A) → p x ≡ q x) → (xs : List A) → filter p xs ≡ filter q xs
+  filter-like p q e xs = filter-same p q xs (all-every (λ x. p x ≡ q x) e xs)
+
+  -- two tests, one after the other
+  pub filter-filter : (p q : A → Bool) (xs : List A) → filter p (filter q xs) ≡ filter (λ x. q x && p x) xs
+  filter-filter p q [] = refl
+  filter-filter p q (x ∷ xs) =
+      ⊎_elim
+      (λ t. ap (filter p) (filter-yes q x xs t)
+      ∙ ap (λ ys. cond (p x) (x ∷ ys) ys) (filter-filter p q xs)
+      ∙ ap (λ b. cond (b && p x) (x ∷ filter (λ y. q y && p y) xs) (filter (λ y. q y && p y) xs)) (sym t))
+      (λ n. ap (filter p) (filter-no q x xs n)
+      ∙ filter-filter p q xs
+      ∙ ap (λ b. cond (b && p x) (x ∷ filter (λ y. q y && p y) xs) (filter (λ y. q y && p y) xs)) (sym n))
+      (cases_Bool (q x))
+
+  pub filter-none : (p : A → Bool) (xs : List A) → AllByRecursion (λ x. p x ≡ false) xs → filter p xs ≡ []
+  filter-none p [] h = refl
+  filter-none p (x ∷ xs) h = filter-no p x xs h.0 ∙ filter-none p xs h.1
+
+  pub filter-all : (p : A → Bool) (xs : List A) → AllByRecursion (λ x. p x ≡ true) xs → filter p xs ≡ xs
+  filter-all p [] h = refl
+  filter-all p (x ∷ xs) h = filter-yes p x xs h.0 ∙ ap (λ ys. x ∷ ys) (filter-all p xs h.1)
+
+  pub filter-map : {B : Type 0} (p : A → Bool) (f : B → A) (xs : List B)
+      → filter p (map f xs) ≡ map f (filter (λ x. p (f x)) xs)
+  filter-map p f [] = refl
+  filter-map p f (x ∷ xs) =
+      ⊎_elim
+      (λ t. filter-yes p (f x) (map f xs) t ∙ ap (λ ys. f x ∷ ys) (filter-map p f xs)
+      ∙ ap (map f) (sym (filter-yes (λ y. p (f y)) x xs t)))
+      (λ n. filter-no p (f x) (map f xs) n ∙ filter-map p f xs
+      ∙ ap (map f) (sym (filter-no (λ y. p (f y)) x xs n)))
+      (cases_Bool (p (f x)))
+
+-- weight: the total of a number given to each element
+
+module _ {A : Type 0} (w : A → ℕ) where
+  pub total-append : (xs ys : List A) → total w (xs ++ ys) ≡ total w xs + total w ys
+  total-append [] ys = omega arith
+  total-append (x ∷ xs) ys = omega (arith, total-append xs ys)
+
+  pub total-flat_map : {B : Type 0} (f : B → List A) (xs : List B)
+      → total w (flat_map f xs) ≡ total (λ x. total w (f x)) xs
+  total-flat_map f [] = refl
+  total-flat_map f (x ∷ xs) = omega (arith, total-append (f x) (flat_map f xs), total-flat_map f xs)
+
+  pub total-map : {B : Type 0} (f : B → A) (xs : List B) → total w (map f xs) ≡ total (λ x. w (f x)) xs
+  total-map f [] = refl
+  total-map f (x ∷ xs) = ap (λ n. w (f x) + n) (total-map f xs)
+
+  pub total-filter : (p : A → Bool) (xs : List A) → total w (filter p xs) ≡ total (λ x. cond (p x) (w x) 0) xs
+  total-filter p [] = refl
+  total-filter p (x ∷ xs) =
+      ⊎_elim
+      (λ t. let whole = cond-true (p x) (w x) 0 t in
+      omega (arith, ap (total w) (filter-yes p x xs t), total-filter p xs, whole))
+      (λ n. let none = cond-false (p x) (w x) 0 n in
+      omega (arith, ap (total w) (filter-no p x xs n), total-filter p xs, none))
+      (cases_Bool (p x))
+
+  -- the same where the numbers agree on the elements
+  pub total-same : (v : A → ℕ) (xs : List A) → AllByRecursion (λ x. w x ≡ v x) xs → total w xs ≡ total v xs
+  total-same v [] h = refl
+  total-same v (x ∷ xs) h = omega (arith, h.0, total-same v xs h.1)
+
+  pub total-like : (v : A → ℕ) → ((x : A) → w x ≡ v x) → (xs : List A) → total w xs ≡ total v xs
+  total-like v e xs = total-same v xs (all-every (λ x. w x ≡ v x) e xs)
+
+  pub total-plus : (v : A → ℕ) (xs : List A) → total (λ x. w x + v x) xs ≡ total w xs + total v xs
+  total-plus v [] = refl
+  total-plus v (x ∷ xs) = omega (arith, total-plus v xs)
+
+  pub total-zero : (xs : List A) → AllByRecursion (λ x. w x ≡ 0) xs → total w xs ≡ 0
+  total-zero [] h = refl
+  total-zero (x ∷ xs) h = omega (arith, h.0, total-zero xs h.1)
+
+-- how many elements pass a test is a weight
+
+pub count-total : {A : Type 0} (p : A → Bool) (xs : List A) → count_by p xs ≡ total (λ x. cond (p x) 1 0) xs
+count-total p [] = refl
+count-total p (x ∷ xs) =
+    sum_by-cons (λ y. cond (p y) 1 0) x xs ∙ ap (λ n. cond (p x) 1 0 + n) (count-total p xs)
