@@ -3,3 +3,4 @@ pub mod Listing  -- the answers of the walk, as plain lists
 pub mod Lists  -- laws of lists
 pub mod Rows  -- laws of rows
 pub mod Assignments  -- the rows that give some variables values
+pub mod Examples  -- the worked examples hold
