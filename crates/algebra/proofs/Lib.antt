@@ -9,3 +9,4 @@ pub mod Parts  -- the walk of one part
 pub mod Walks  -- the walk of a query
 pub mod Pruning  -- every term, and the look-ahead, keep the law
 pub mod LookAhead  -- what the look-ahead asks of a pattern
+pub mod Examples  -- the worked examples hold
