@@ -1,8 +1,7 @@
 -- What the look-ahead asks of a pattern: that some triple of the store matches it. Assumes nothing.
 --     look_ahead_in_words     a pattern is possible exactly if a triple of the store matches it
-use Rattle.std.proofs.Common.{◌≡◌, ℕ, ◌<◌, Bool, true, false, cond, ◌||◌, ◌≢◌}
+use Rattle.std.proofs.Common.{◌≡◌, ℕ, ◌<◌, Bool, true, false, cond, ◌||◌, ◌≢◌, leb}
 use Rattle.std.proofs.Common.{List, [], ◌∷◌, map, length, refl, sym, ap, ◌∙◌, subst, inl, inr, ⊎_elim, arith}
-use Rattle.std.proofs.Common.{leb}
 use Rattle.std.proofs.lemmas.Bool.{cases_Bool, cases_lt, cond-true, and_parts, and_from, or_left}
 use Rattle.std.proofs.lemmas.Bool.{or_right, or_from, cond_both, eqb-true, eq-eqb, leb-true, both_ways}
 use Rattle.std.proofs.lemmas.List.FromFn.{length-map-range_with_len, get_or-map-range_with_len}
@@ -15,16 +14,14 @@ use Rattle.query.specs.Limits.{variables, most_variable, most_term, lawful_place
 use Rattle.triples.specs.declared.triple.Triple.{Triple}
 use Rattle.triples.specs.Meaning.{Term, Terms}
 use Rattle.filter.specs.Rows.{Row, none, value, has_value, number_at}
-use Rattle.algebra.specs.Patterns.{triple_under, stored, numbers}
-use Rattle.algebra.specs.Patterns.{completions}
+use Rattle.algebra.specs.Patterns.{triple_under, stored, numbers, completions}
 use Rattle.algebra.specs.Admissions.{Completes, Allows, Matches}
 use Rattle.algebra.specs.Theorems.{LookAheadInWords}
-use Rattle.algebra.proofs.Pruning.{some-from_has_value, pattern-possible}
+use Rattle.algebra.proofs.Rows.{value-past, has_value-no}
 use Rattle.algebra.proofs.Assignments.{completions-complete}
-use Rattle.algebra.proofs.Rows.{value-past}
-use Rattle.algebra.proofs.Rows.{has_value-no}
+use Rattle.algebra.proofs.Pruning.{some-from_has_value, pattern-possible}
 
--- an element that passes
+-- list_any
 
 -- an element of which P holds and that passes
 record Found {A : Type 0} (P : A → Type 0) (p : A → Bool) : Type 0 where

@@ -1,5 +1,5 @@
--- The walk of one part from a row: of its answers those that pass a test are those of the listing, if no value
--- is left out that a completion in the store which passes the test has. Assumes nothing.
+-- The walk of one part from a row: of its answers those that pass a test are those of the listing, if no
+-- value is left out that a completion in the store which passes the test has. Assumes nothing.
 --     Protects m p admits     no value is left out that some completion which passes p has in the store
 --     filter-walk_part        what passes p is answered as it is listed
 --     answers-walk_part       under a lawful admission all is answered as it is listed

@@ -2,11 +2,9 @@
 --     taken vs s r        the row r with the values that s gives the variables vs
 --     pruners_lawful      every term, and the look-ahead, are lawful
 use Rattle.std.proofs.Common.{◌≡◌, ℕ, zero, suc, ◌+◌, ◌<◌, ◌≤◌, Bool, true, false, not, ◌&&◌, ◌||◌, ◌≢◌}
-use Rattle.std.proofs.Common.{List, [], ◌∷◌, length, refl, sym, ap, ◌∙◌, subst, inl, inr, ⊎_elim, arith}
-use Rattle.std.proofs.Common.{leb}
+use Rattle.std.proofs.Common.{List, [], ◌∷◌, length, refl, sym, ap, ◌∙◌, subst, inl, inr, ⊎_elim, arith, leb}
 use Rattle.std.proofs.lemmas.Bool.{cases_Bool, cases_eq, cases_lt, and_parts, and_from, or_left}
-use Rattle.std.proofs.lemmas.Bool.{or_right, le-leb, leb-true, both_ways}
-use Rattle.std.proofs.lemmas.Bool.{not-true}
+use Rattle.std.proofs.lemmas.Bool.{or_right, le-leb, leb-true, both_ways, not-true}
 use Rattle.std.proofs.lemmas.List.Folds.{list_any-append}
 use Rattle.std.specs.List.{AllByRecursion, flat_map, list_all, list_any, range_with_len}
 use Rattle.query.specs.declared.pattern.TriplePattern.{TriplePattern}
@@ -18,18 +16,17 @@ use Rattle.algebra.specs.Patterns.{with_value, triple_under, stored, numbers, op
 use Rattle.algebra.specs.Admissions.{Completes, possible}
 use Rattle.algebra.specs.Theorems.{PrunersLawful}
 use Rattle.algebra.proofs.Lists.{all-filter}
-use Rattle.algebra.proofs.Patterns.{stored-same}
-use Rattle.algebra.proofs.Assignments.{Among, among-open}
 use Rattle.algebra.proofs.Rows.{value-with_same, value-with_other, length-with_value, with_value-past}
-use Rattle.algebra.proofs.Rows.{value-past}
-use Rattle.algebra.proofs.Rows.{has_value-no, has_value-yes, all-range}
+use Rattle.algebra.proofs.Rows.{value-past, has_value-no, has_value-yes, all-range}
+use Rattle.algebra.proofs.Assignments.{Among, among-open}
+use Rattle.algebra.proofs.Patterns.{stored-same}
 
 -- has_value
 
 pub some-from_has_value : (r : Row) (v : ℕ) → has_value r v ≡ true → value r v ≢ none
 some-from_has_value r v h e = omega (arith, has_value-yes r v h, e)
 
--- an element that passes
+-- list_any
 
 any-range : {A : Type 0} (p : A → Bool) (f : ℕ → List A) (a n x : ℕ) → a ≤ x → x < a + n
     → list_any p (f x) ≡ true → list_any p (flat_map f (range_with_len a n)) ≡ true
