@@ -1,3 +1,4 @@
 -- Read in this order.
 pub mod Listing  -- the answers of the walk, as plain lists
 pub mod Lists  -- laws of lists
+pub mod Merging  -- rows compared and merged
