@@ -2,3 +2,4 @@
 pub mod Listing  -- the answers of the walk, as plain lists
 pub mod Lists  -- laws of lists
 pub mod Merging  -- rows compared and merged
+pub mod Joins  -- joins with a basic pattern
