@@ -1,5 +1,6 @@
 -- Read in this order.
 pub mod Listing  -- the answers of the walk, as plain lists
 pub mod Lists  -- laws of lists
+pub mod Rows  -- laws of rows
 pub mod Merging  -- rows compared and merged
 pub mod Joins  -- joins with a basic pattern
