@@ -2,8 +2,8 @@
 -- store, in the same order. Assumes nothing.
 use Rattle.std.proofs.Common.{◌≡◌, ℕ, zero, suc, ◌+◌, ◌<◌, ◌≤◌, ◌≢◌, Bool, true, false, cond, not, ◌&&◌, ◌||◌}
 use Rattle.std.proofs.Common.{List, [], ◌∷◌, ◌++◌, map, length, eqb, refl, sym, ap, ap₂, ◌∙◌, subst, arith}
-use Rattle.std.proofs.Common.{⊎_elim, append-nil, eq-eqb, ne_eqb}
-use Rattle.std.proofs.lemmas.Bool.{and_left, and_right, or_left, or_right, cases_Bool, cases_eq, cases_lt}
+use Rattle.std.proofs.Common.{⊎_elim, true≢false, append-nil, eq-eqb, ne_eqb}
+use Rattle.std.proofs.lemmas.Bool.{and_left, and_right, or_left, or_right, cases_Bool, cases_eq, cases_lt, and_from}
 use Rattle.std.proofs.lemmas.Bool.{cond-true, cond-false}
 use Rattle.std.specs.List.{filter, flat_map, range_with_len, AllByRecursion}
 use Rattle.query.specs.declared.place.Place.{Place}
@@ -18,6 +18,8 @@ use Rattle.algebra.specs.Patterns.{assignments, completions}
 use Rattle.algebra.specs.Algebra.{bgp, agree, compatible, merge}
 use Rattle.algebra.proofs.Lists.{filter-yes, filter-no, filter-flat_map, filter-like, flat_map-same}
 use Rattle.algebra.proofs.Lists.{map-flat_map, all-weaker}
+use Rattle.algebra.proofs.Rows.{value-with_same, value-with_other, length-with_value, value-past, value-blank}
+use Rattle.algebra.proofs.Rows.{length-blank, has_value-yes, has_value-no, has_value-none, all-range}
 use Rattle.algebra.proofs.Merging.{agree_none, agree_values, compatible_with, compatible_none, merge_none}
 use Rattle.algebra.proofs.Merging.{merge_free, merge_bound, length_merge, merge_second}
 
@@ -105,6 +107,10 @@ module _ (m : Meaning) (ts : List TriplePattern) (r : Row) where
       ∙ ap (map (merge r)) (filter-flat_map (compatible r) (λ x. filter (stored m ts) (each x)) (terms m.top))
       ∙ map-flat_map (merge r) (λ x. filter (compatible r) (filter (stored m ts) (each x))) (terms m.top)
 
+  nothing : (b : Bool) → ◌≡◌ {A = List Row} (cond b [] []) []
+  nothing true = refl
+  nothing false = refl
+
   map_cond : (b : Bool) (s : Row) → map (merge r) (cond b (s ∷ []) []) ≡ cond b (merge r s ∷ []) []
   map_cond true s = refl
   map_cond false s = refl
@@ -116,7 +122,7 @@ module _ (m : Meaning) (ts : List TriplePattern) (r : Row) where
       ∙ map_cond (compatible r s) s
       ∙ ap (λ b. cond (compatible r s) (cond b (merge r s ∷ []) []) []) (sym t))
       (λ f. ap (λ l. map (merge r) (filter (compatible r) l)) (filter-no (stored m ts) s [] f)
-      ∙ ?
+      ∙ sym (nothing (compatible r s))
       ∙ ap (λ b. cond (compatible r s) (cond b (merge r s ∷ []) []) []) (sym f))
       (cases_Bool (stored m ts s))
 
@@ -124,4 +130,139 @@ module _ (m : Meaning) (ts : List TriplePattern) (r : Row) where
   record Begun (a : ℕ) (s : Row) : Type 0 where
     long : length s ≡ length r
     rest : (v : ℕ) → a ≤ v → value s v ≡ none
-    given : (v : ℕ) → mentions v ts ≡ true → v < a → v < length r → value s v ≢ none
+    given : (v : ℕ) → mentions v ts ≡ true → v < a → value s v ≢ none
+
+  begun_pass : (a : ℕ) (s : Row) → Begun a s → mentions a ts ≡ false → Begun (a + 1) s
+  begun_pass a s b f = record {
+    long = b.long;
+    rest = λ v l. b.rest v (omega arith);
+    given = λ v h l. ⊎_elim
+        (λ e. absurd (true≢false (sym h ∙ ap (λ k. mentions k ts) e ∙ f)))
+        (λ d. b.given v h (omega arith))
+        (cases_eq v a);
+  }
+
+  begun_with : (a : ℕ) (s : Row) (x : ℕ) → Begun a s → a < length r → 1 ≤ x
+      → Begun (a + 1) (with_value s a x)
+  begun_with a s x b l p = record {
+    long = length-with_value s a x ∙ b.long;
+    rest = λ v h. value-with_other s a x v (λ e. omega (arith, h, e)) ∙ b.rest v (omega arith);
+    given = λ v h k. ⊎_elim
+        (λ e. let there : a < length s = let g = b.long in omega arith in
+        let at = ap (value (with_value s a x)) e ∙ value-with_same s a x there in
+        λ z. omega (arith, at, z, p))
+        (λ d z. b.given v h (omega (arith, k, d)) (sym (value-with_other s a x v d) ∙ z))
+        (cases_eq v a);
+  }
+
+  -- with no variable left
+  join_none : (a : ℕ) (s : Row) → a ≡ length r → Begun a s → merged [] s ≡ completed [] s
+  join_none a s e b =
+      merged_none s
+      ∙ ⊎_elim
+      (λ c. ap (λ t. cond (compatible r s) (cond t (merge r s ∷ []) []) [])
+      (sym (stored_same m ts (merge r s) s (λ v h. ⊎_elim
+      (λ i. merge_second r s v c (b.given v h (omega (arith, i, e))))
+      (λ o. value-past (merge r s) v (let g = length_merge r s (sym b.long) in omega (arith, g, o))
+      ∙ sym (value-past s v (let g = b.long in omega (arith, g, o))))
+      (cases_lt v (length r))))))
+      (λ d. cond-false (compatible r s) _ [] d ∙ sym (cond-false (compatible r s) _ [] d))
+      (cases_Bool (compatible r s))
+
+  module _ (small : (v : ℕ) → value r v ≤ m.top) where
+    -- the variables from a + 1 on, n of them
+    module _ (a n : ℕ) (s : Row) (b : Begun a s) (inside : a < length r)
+        (more : (t : Row) → Begun (a + 1) t → merged (named (a + 1) n) t ≡ completed (left_open (a + 1) n) t)
+        where
+      more_with : (x : ℕ) → 1 ≤ x
+          → merged (named (a + 1) n) (with_value s a x) ≡ completed (left_open (a + 1) n) (with_value s a x)
+      more_with x p = more (with_value s a x) (begun_with a s x b inside p)
+
+      agrees : (x : ℕ) → compatible r (with_value s a x) ≡ (agree (value r a) x && compatible r s)
+      agrees x = compatible_with r s a x (b.rest a (omega arith))
+
+      -- a is in no pattern
+      join_past : mentions a ts ≡ false → merged (named a (suc n)) s ≡ completed (left_open a (suc n)) s
+      join_past f =
+          let past = range_with_len (a + 1) n in
+          ap (λ vs. merged vs s) (filter-no (λ v. mentions v ts) a past f)
+          ∙ more s (begun_pass a s b f)
+          ∙ ap (λ vs. completed vs s)
+          (sym (filter-no (λ v. mentions v ts && not (has_value r v)) a past (and_left (mentions a ts) _ f)))
+
+      -- a has a value in r: with no other value is s compatible with r
+      bound_other : (x : ℕ) → 1 ≤ x → x ≢ value r a → value r a ≢ none
+          → merged (named (a + 1) n) (with_value s a x) ≡ []
+      bound_other x p d h =
+          more_with x p
+          ∙ cond-false (compatible r (with_value s a x)) _ []
+          (agrees x ∙ and_left (agree (value r a) x) _
+          (agree_values (value r a) x h (λ z. omega (arith, z, p)) ∙ ne_eqb (value r a) x (λ z. d (sym z))))
+
+      bound_own : value r a ≢ none
+          → merged (named (a + 1) n) (with_value s a (value r a)) ≡ completed (left_open (a + 1) n) s
+      bound_own h =
+          let x = value r a in
+          let same : agree x x ≡ true = agree_values x x h h ∙ eq-eqb x x refl in
+          more_with x (omega (arith, h))
+          ∙ ap (λ c. cond c (filter (stored m ts) (assignments m.top (left_open (a + 1) n)
+          (merge r (with_value s a x)))) []) (agrees x ∙ ap (λ c. c && compatible r s) same)
+          ∙ ap (λ t. cond (compatible r s) (filter (stored m ts) (assignments m.top (left_open (a + 1) n) t)) [])
+          (merge_bound r s a x h)
+
+      join_bound : mentions a ts ≡ true → has_value r a ≡ true
+          → merged (named a (suc n)) s ≡ completed (left_open a (suc n)) s
+      join_bound h k =
+          let past = range_with_len (a + 1) n in
+          let has = has_value-yes r a k in
+          let some : value r a ≢ none = λ z. omega (arith, z, has) in
+          ap (λ vs. merged vs s) (filter-yes (λ v. mentions v ts) a past h)
+          ∙ merged_each a (named (a + 1) n) s
+          ∙ flat_map-one (λ x. merged (named (a + 1) n) (with_value s a x)) (value r a) 1 m.top has
+          (let few = small a in omega (arith, few)) (λ x p d. bound_other x p d some)
+          ∙ bound_own some
+          ∙ ap (λ vs. completed vs s)
+          (sym (filter-no (λ v. mentions v ts && not (has_value r v)) a past
+          (and_right (mentions a ts) _ (ap not k))))
+
+      -- a has no value in r: s with each value is as compatible as s
+      free_with : (x : ℕ) → value r a ≡ none
+          → completed (left_open (a + 1) n) (with_value s a x)
+          ≡ cond (compatible r s) (filter (stored m ts) (assignments m.top (left_open (a + 1) n)
+          (with_value (merge r s) a x))) []
+      free_with x e =
+          ap (λ c. cond c (filter (stored m ts) (assignments m.top (left_open (a + 1) n)
+          (merge r (with_value s a x)))) [])
+          (agrees x ∙ ap (λ c. c && compatible r s) (agree_none (value r a) x e))
+          ∙ ap (λ t. cond (compatible r s) (filter (stored m ts) (assignments m.top (left_open (a + 1) n) t)) [])
+          (merge_free r s a x (sym b.long) e)
+
+      join_free : mentions a ts ≡ true → has_value r a ≡ false
+          → merged (named a (suc n)) s ≡ completed (left_open a (suc n)) s
+      join_free h k =
+          let past = range_with_len (a + 1) n in
+          let vs = left_open (a + 1) n in
+          let each = λ (x : ℕ). assignments m.top vs (with_value (merge r s) a x) in
+          let none = has_value-no r a k in
+          ap (λ ws. merged ws s) (filter-yes (λ v. mentions v ts) a past h)
+          ∙ merged_each a (named (a + 1) n) s
+          ∙ flat_map-same (λ x. merged (named (a + 1) n) (with_value s a x))
+          (λ x. cond (compatible r s) (filter (stored m ts) (each x)) []) (terms m.top)
+          (all-weaker _ _ (λ x l. more_with x l.0 ∙ free_with x none) (terms m.top) (all-range 1 m.top))
+          ∙ flat_map-cond (compatible r s) (λ x. filter (stored m ts) (each x)) (terms m.top)
+          ∙ ap (λ l. cond (compatible r s) l []) (sym (filter-flat_map (stored m ts) each (terms m.top)))
+          ∙ ap (λ ws. completed ws s)
+          (sym (filter-yes (λ v. mentions v ts && not (has_value r v)) a past (and_from _ _ h (ap not k))))
+
+    -- through the variables from a on
+    join_from : (n a : ℕ) (s : Row) → a + n ≡ length r → Begun a s
+        → merged (named a n) s ≡ completed (left_open a n) s
+    join_from zero a s e b = join_none a s (omega arith) b
+    join_from (suc n) a s e b =
+        let inside : a < length r = omega arith in
+        let more = λ (t : Row) (c : Begun (a + 1) t). join_from n (a + 1) t (omega arith) c in
+        ⊎_elim
+        (λ h. ⊎_elim (join_bound a n s b inside more h) (join_free a n s b inside more h)
+        (cases_Bool (has_value r a)))
+        (join_past a n s b inside more)
+        (cases_Bool (mentions a ts))
