@@ -2,7 +2,7 @@
 -- store, in the same order. Assumes nothing.
 use Rattle.std.proofs.Common.{◌≡◌, ℕ, zero, suc, ◌+◌, ◌<◌, ◌≤◌, ◌≢◌, Bool, true, false, cond, not, ◌&&◌, ◌||◌}
 use Rattle.std.proofs.Common.{List, [], ◌∷◌, ◌++◌, map, length, eqb, refl, sym, ap, ap₂, ◌∙◌, subst, arith}
-use Rattle.std.proofs.Common.{⊎_elim, true≢false, append-nil, eq-eqb, ne_eqb}
+use Rattle.std.proofs.Common.{⊎_elim, true≢false, replicate, append-nil, eq-eqb, ne_eqb}
 use Rattle.std.proofs.lemmas.Bool.{and_left, and_right, or_left, or_right, cases_Bool, cases_eq, cases_lt, and_from}
 use Rattle.std.proofs.lemmas.Bool.{cond-true, cond-false}
 use Rattle.std.specs.List.{filter, flat_map, range_with_len, AllByRecursion}
@@ -266,3 +266,35 @@ module _ (m : Meaning) (ts : List TriplePattern) (r : Row) where
         (cases_Bool (has_value r a)))
         (join_past a n s b inside more)
         (cases_Bool (mentions a ts))
+
+-- the row has sixteen values, each none or a term from 1 to the top
+pub record Valid (top : ℕ) (r : Row) : Type 0 where
+  pub long : length r ≡ variables
+  pub small : (v : ℕ) → value r v ≤ top
+
+-- the variables of the patterns are those that the blank row gives no value
+open_blank : (ts : List TriplePattern) → open_variables ts blank ≡ filter (λ v. mentions v ts) numbers
+open_blank ts =
+    filter-like (λ v. mentions v ts && not (has_value blank v)) (λ v. mentions v ts)
+    (λ v. ap (λ b. mentions v ts && not b) (has_value-none blank v (value-blank v)) ∙ and_yes (mentions v ts))
+    numbers
+  where
+    and_yes : (b : Bool) → (b && true) ≡ b
+    and_yes true = refl
+    and_yes false = refl
+
+-- the merges of the row with the solutions of a basic pattern are its completions that are in the store
+pub join_pattern : (m : Meaning) (ts : List TriplePattern) (r : Row) → Valid m.top r
+    → map (merge r) (filter (compatible r) (bgp m ts)) ≡ filter (stored m ts) (completions m.top ts r)
+join_pattern m ts r valid =
+    let like : replicate (length r) none ≡ blank = ap (λ n. replicate n none) valid.long in
+    ap (λ vs. merged m ts r vs blank) (open_blank ts)
+    ∙ join_from m ts r valid.small variables 0 blank (omega (arith, valid.long)) (record {
+      long = length-blank ∙ sym valid.long;
+      rest = λ v _. value-blank v;
+      given = λ v _ l. absurd (omega arith);
+    })
+    ∙ ap (λ c. cond c (filter (stored m ts) (assignments m.top (open_variables ts r) (merge r blank))) [])
+    (ap (compatible r) (sym like) ∙ compatible_none r)
+    ∙ ap (λ t. filter (stored m ts) (assignments m.top (open_variables ts r) t))
+    (ap (merge r) (sym like) ∙ merge_none r)
