@@ -4,3 +4,4 @@ pub mod Lists  -- laws of lists
 pub mod Rows  -- laws of rows
 pub mod Merging  -- rows compared and merged
 pub mod Joins  -- joins with a basic pattern
+pub mod Counts  -- the algebra counts as the listing
