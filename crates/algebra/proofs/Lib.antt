@@ -5,3 +5,4 @@ pub mod Rows  -- laws of rows
 pub mod Merging  -- rows compared and merged
 pub mod Joins  -- joins with a basic pattern
 pub mod Counts  -- the algebra counts as the listing
+pub mod Cardinalities  -- how often a row occurs in what the operators make
