@@ -1,16 +1,17 @@
 -- How often a row occurs in what the operators make, and that nothing but counts matters to them. Assumes
 -- nothing.
 use Rattle.std.proofs.Common.{◌≡◌, ℕ, ◌+◌, ◌<◌, Bool, true, false, cond, not, ◌&&◌, ◌||◌, List, [], ◌∷◌}
-use Rattle.std.proofs.Common.{◌++◌, map, eqb, refl, sym, ap, ap₂, ◌∙◌, subst, arith, ⊎_elim}
+use Rattle.std.proofs.Common.{◌++◌, map, eqb, refl, sym, ap, ap₂, ◌∙◌, arith, ⊎_elim}
 use Rattle.std.proofs.lemmas.Bool.{cases_Bool, cond-true, cond-false, ne_eqb}
-use Rattle.std.specs.List.{filter, flat_map, list_all}
+use Rattle.std.specs.List.{filter, list_all}
 use Rattle.query.specs.Lawful.{total}
 use Rattle.filter.specs.Rows.{Row}
-use Rattle.algebra.specs.Algebra.{compatible, merge, join, diff, left_join}
+use Rattle.algebra.specs.Algebra.{compatible, merge, join, diff}
 use Rattle.algebra.specs.Answers.{same_row, times}
-use Rattle.algebra.specs.Theorems.{Cardinalities, CountedAsDefined, AsOften, MadeAsOften, OnlyCountsMatter}
+use Rattle.algebra.specs.Theorems.{CountedAsDefined, AsOften, OnlyCountsMatter}
 use Rattle.algebra.proofs.Lists.{total-append, total-flat_map, total-map, total-filter, total-like, total-zero}
 use Rattle.algebra.proofs.Lists.{all-every}
+use Rattle.algebra.proofs.Merging.{cond-same}
 use Rattle.algebra.proofs.Rows.{same_row-true, same_row-refl, times-total}
 
 -- what the row s counts for r
@@ -19,74 +20,75 @@ one r s = cond (same_row r s) 1 0
 
 -- cond
 
-total_cond : (b : Bool) (w : Row → ℕ) (rows : List Row)
+total-cond : (b : Bool) (w : Row → ℕ) (rows : List Row)
     → total (λ s. cond b (w s) 0) rows ≡ cond b (total w rows) 0
-total_cond true w rows = refl
-total_cond false w rows = total-zero (λ _. 0) rows (all-every _ (λ _. refl) rows)
+total-cond true w rows = refl
+total-cond false w rows = total-zero (λ _. 0) rows (all-every _ (λ _. refl) rows)
 
-cond_zero : (b : Bool) → ◌≡◌ {A = ℕ} (cond b 0 0) 0
-cond_zero true = refl
-cond_zero false = refl
-
-cond_and : (a b : Bool) → ◌≡◌ {A = ℕ} (cond a (cond b 1 0) 0) (cond (a && b) 1 0)
-cond_and true b = refl
-cond_and false b = refl
+cond-and : (a b : Bool) → ◌≡◌ {A = ℕ} (cond a (cond b 1 0) 0) (cond (a && b) 1 0)
+cond-and true b = refl
+cond-and false b = refl
 
 -- filter
 
 -- only rows that are the same count, and to them the test is the same
-one_filtered : (test : Row → Bool) (r s : Row) → cond (test s) (one r s) 0 ≡ cond (test r) (one r s) 0
-one_filtered test r s =
+one-filtered : (test : Row → Bool) (r s : Row) → cond (test s) (one r s) 0 ≡ cond (test r) (one r s) 0
+one-filtered test r s =
     ⊎_elim
     (λ e. ap (λ t. cond (test t) (one r s) 0) (sym (same_row-true r s e)))
     (λ f. ap (λ b. cond (test s) (cond b 1 0) 0) f
-    ∙ cond_zero (test s) ∙ sym (cond_zero (test r))
+    ∙ cond-same (test s) 0 ∙ sym (cond-same (test r) 0)
     ∙ ap (λ b. cond (test r) (cond b 1 0) 0) (sym f))
     (cases_Bool (same_row r s))
 
-times_filter : (test : Row → Bool) (rows : List Row) (r : Row)
+times-filter : (test : Row → Bool) (rows : List Row) (r : Row)
     → times r (filter test rows) ≡ cond (test r) (times r rows) 0
-times_filter test rows r =
+times-filter test rows r =
     times-total r (filter test rows)
     ∙ total-filter (one r) test rows
-    ∙ total-like _ _ (one_filtered test r) rows
-    ∙ total_cond (test r) (one r) rows
+    ∙ total-like _ _ (one-filtered test r) rows
+    ∙ total-cond (test r) (one r) rows
     ∙ ap (λ n. cond (test r) n 0) (sym (times-total r rows))
 
 -- ++
 
-times_append : (left right : List Row) (r : Row) → times r (left ++ right) ≡ times r left + times r right
-times_append left right r =
-    omega (arith, times-total r (left ++ right), total-append (one r) left right, times-total r left,
-    times-total r right)
+times-append : (left right : List Row) (r : Row) → times r (left ++ right) ≡ times r left + times r right
+times-append left right r =
+    omega (
+      arith,
+      times-total r (left ++ right),
+      total-append (one r) left right,
+      times-total r left,
+      times-total r right,
+    )
 
 -- join
 
 -- the total of what a join makes is that of all compatible pairs
-total_join : (w : Row → ℕ) (left right : List Row)
+total-join : (w : Row → ℕ) (left right : List Row)
     → total w (join left right)
     ≡ total (λ s. total (λ t. cond (compatible s t) (w (merge s t)) 0) right) left
-total_join w left right =
+total-join w left right =
     total-flat_map w (λ s. map (merge s) (filter (compatible s) right)) left
     ∙ total-like _ _ (λ s. total-map w (merge s) (filter (compatible s) right)
     ∙ total-filter (λ t. w (merge s t)) (compatible s) right) left
 
-times_join : (left right : List Row) (r : Row)
+times-join : (left right : List Row) (r : Row)
     → times r (join left right)
     ≡ total (λ s. total (λ t. cond (compatible s t && same_row r (merge s t)) 1 0) right) left
-times_join left right r =
+times-join left right r =
     times-total r (join left right)
-    ∙ total_join (one r) left right
-    ∙ total-like _ _ (λ s. total-like _ _ (λ t. cond_and (compatible s t) (same_row r (merge s t))) right) left
+    ∙ total-join (one r) left right
+    ∙ total-like _ _ (λ s. total-like _ _ (λ t. cond-and (compatible s t) (same_row r (merge s t))) right) left
 
 -- each operator counts as it is defined to
 pub counted_as_defined : CountedAsDefined
 counted_as_defined test left right r = record {
-  filtered = times_filter test left r;
-  united = times_append left right r;
-  joined = times_join left right r;
-  lacking = times_filter (λ s. list_all (λ t. not (compatible s t) || not (test (merge s t))) right) left r;
-  left_joined = times_append (filter test (join left right)) (diff test left right) r;
+  filtered = times-filter test left r;
+  united = times-append left right r;
+  joined = times-join left right r;
+  lacking = times-filter (λ s. list_all (λ t. not (compatible s t) || not (test (merge s t))) right) left r;
+  left_joined = times-append (filter test (join left right)) (diff test left right) r;
 }
 
 -- only counts matter
@@ -97,98 +99,98 @@ without r [] = []
 without r (s ∷ rows) = cond (same_row r s) rows (s ∷ without r rows)
 
 -- the total over rows among which r is
-total_without : (w : Row → ℕ) (r : Row) (rows : List Row) → 0 < total (one r) rows
+total-without : (w : Row → ℕ) (r : Row) (rows : List Row) → 0 < total (one r) rows
     → total w rows ≡ w r + total w (without r rows)
-total_without w r [] some = absurd (omega arith)
-total_without w r (s ∷ rows) some =
+total-without w r [] some = absurd (omega arith)
+total-without w r (s ∷ rows) some =
     ⊎_elim
     (λ e. ap (λ t. w t + total w rows) (sym (same_row-true r s e))
     ∙ ap (λ l. w r + total w l) (sym (cond-true (same_row r s) rows (s ∷ without r rows) e)))
     (λ f. let less : one r s ≡ 0 = cond-false (same_row r s) 1 0 f in
-    let rest = total_without w r rows (omega (arith, some, less)) in
+    let rest = total-without w r rows (omega (arith, some, less)) in
     let left = ap (total w) (cond-false (same_row r s) rows (s ∷ without r rows) f) in
     omega (arith, rest, left))
     (cases_Bool (same_row r s))
 
-one_own : (r : Row) → one r r ≡ 1
-one_own r = cond-true (same_row r r) 1 0 (same_row-refl r)
+one-own : (r : Row) → one r r ≡ 1
+one-own r = cond-true (same_row r r) 1 0 (same_row-refl r)
 
 -- rows that occur equally often have equal totals
-total_as_often : (w : Row → ℕ) (rows others : List Row)
+total-as_often : (w : Row → ℕ) (rows others : List Row)
     → ((r : Row) → total (one r) rows ≡ total (one r) others) → total w rows ≡ total w others
-total_as_often w [] [] same = refl
-total_as_often w [] (s ∷ others) same = absurd (omega (arith, same s, one_own s))
-total_as_often w (r ∷ rows) others same =
-    let some : 0 < total (one r) others = omega (arith, same r, one_own r) in
-    let rest = total_as_often w rows (without r others)
-        (λ s. omega (arith, same s, total_without (one s) r others some)) in
-    omega (arith, rest, total_without w r others some)
+total-as_often w [] [] same = refl
+total-as_often w [] (s ∷ others) same = absurd (omega (arith, same s, one-own s))
+total-as_often w (r ∷ rows) others same =
+    let some : 0 < total (one r) others = omega (arith, same r, one-own r) in
+    let rest = total-as_often w rows (without r others)
+    (λ s. omega (arith, same s, total-without (one s) r others some)) in
+    omega (arith, rest, total-without w r others some)
 
-total_alike : (w : Row → ℕ) (rows others : List Row) → AsOften rows others → total w rows ≡ total w others
-total_alike w rows others same =
-    total_as_often w rows others (λ r. sym (times-total r rows) ∙ same r ∙ times-total r others)
+total-alike : (w : Row → ℕ) (rows others : List Row) → AsOften rows others → total w rows ≡ total w others
+total-alike w rows others same =
+    total-as_often w rows others (λ r. sym (times-total r rows) ∙ same r ∙ times-total r others)
 
 -- a test holds of all rows exactly if those of which it does not total to nothing
-all_total : (p : Row → Bool) (rows : List Row) → list_all p rows ≡ eqb (total (λ s. cond (p s) 0 1) rows) 0
-all_total p [] = refl
-all_total p (s ∷ rows) =
+list_all-total : (p : Row → Bool) (rows : List Row) → list_all p rows ≡ eqb (total (λ s. cond (p s) 0 1) rows) 0
+list_all-total p [] = refl
+list_all-total p (s ∷ rows) =
     let rest = total (λ t. cond (p t) 0 1) rows in
     let own : ℕ = cond (p s) 0 1 in
     ⊎_elim
     (λ t. let none : own ≡ 0 = cond-true (p s) 0 1 t in
     let same : rest ≡ own + rest = omega (arith, none) in
-    ap (λ b. b && list_all p rows) t ∙ all_total p rows ∙ ap (λ n. eqb n 0) same)
+    ap (λ b. b && list_all p rows) t ∙ list_all-total p rows ∙ ap (λ n. eqb n 0) same)
     (λ f. let some : own ≡ 1 = cond-false (p s) 0 1 f in
     ap (λ b. b && list_all p rows) f ∙ sym (ne_eqb (own + rest) 0 (λ z. omega (arith, z, some))))
     (cases_Bool (p s))
 
-filter_alike : (test : Row → Bool) (rows others : List Row) → AsOften rows others
+filter-alike : (test : Row → Bool) (rows others : List Row) → AsOften rows others
     → AsOften (filter test rows) (filter test others)
-filter_alike test rows others same r =
-    times_filter test rows r ∙ ap (λ n. cond (test r) n 0) (same r) ∙ sym (times_filter test others r)
+filter-alike test rows others same r =
+    times-filter test rows r ∙ ap (λ n. cond (test r) n 0) (same r) ∙ sym (times-filter test others r)
 
-append_alike : (left right other_left other_right : List Row) → AsOften left other_left
+append-alike : (left right other_left other_right : List Row) → AsOften left other_left
     → AsOften right other_right → AsOften (left ++ right) (other_left ++ other_right)
-append_alike left right other_left other_right lefts rights r =
-    times_append left right r ∙ ap₂ (λ n k. n + k) (lefts r) (rights r)
-    ∙ sym (times_append other_left other_right r)
+append-alike left right other_left other_right lefts rights r =
+    times-append left right r ∙ ap₂ (λ n k. n + k) (lefts r) (rights r)
+    ∙ sym (times-append other_left other_right r)
 
 module _ (test : Row → Bool) (left right other_left other_right : List Row) (lefts : AsOften left other_left)
     (rights : AsOften right other_right) where
-  joined_alike : AsOften (join left right) (join other_left other_right)
-  joined_alike r =
+  join-alike : AsOften (join left right) (join other_left other_right)
+  join-alike r =
       let pairs = λ (rows : List Row) (s : Row). total (λ t. cond (compatible s t) (one r (merge s t)) 0) rows in
       times-total r (join left right)
-      ∙ total_join (one r) left right
-      ∙ total-like _ _ (λ s. total_alike (λ t. cond (compatible s t) (one r (merge s t)) 0) right other_right rights)
+      ∙ total-join (one r) left right
+      ∙ total-like _ _ (λ s. total-alike (λ t. cond (compatible s t) (one r (merge s t)) 0) right other_right rights)
       left
-      ∙ total_alike (pairs other_right) left other_left lefts
-      ∙ sym (total_join (one r) other_left other_right)
+      ∙ total-alike (pairs other_right) left other_left lefts
+      ∙ sym (total-join (one r) other_left other_right)
       ∙ sym (times-total r (join other_left other_right))
 
-  diff_alike : AsOften (diff test left right) (diff test other_left other_right)
-  diff_alike r =
+  diff-alike : AsOften (diff test left right) (diff test other_left other_right)
+  diff-alike r =
       let free = λ (t : Row). not (compatible r t) || not (test (merge r t)) in
       (counted_as_defined test left right r).lacking
       ∙ ap (λ n. cond (list_all free right) n 0) (lefts r)
       ∙ ap (λ b. cond b (times r other_left) 0)
-      (all_total free right ∙ ap (λ n. eqb n 0) (total_alike (λ t. cond (free t) 0 1) right other_right rights)
-      ∙ sym (all_total free other_right))
+      (list_all-total free right ∙ ap (λ n. eqb n 0) (total-alike (λ t. cond (free t) 0 1) right other_right rights)
+      ∙ sym (list_all-total free other_right))
       ∙ sym (counted_as_defined test other_left other_right r).lacking
 
 -- of the rows that the operators take, only counts matter
 pub only_counts_matter : OnlyCountsMatter
 only_counts_matter test left right other_left other_right lefts rights =
-    let joins = joined_alike test left right other_left other_right lefts rights in
-    let lacks = diff_alike test left right other_left other_right lefts rights in
+    let joins = join-alike test left right other_left other_right lefts rights in
+    let lacks = diff-alike test left right other_left other_right lefts rights in
     let merges = join left right in
     let other_merges = join other_left other_right in
     record {
-      filtered = filter_alike test left other_left lefts;
-      united = append_alike left right other_left other_right lefts rights;
+      filtered = filter-alike test left other_left lefts;
+      united = append-alike left right other_left other_right lefts rights;
       joined = joins;
       lacking = lacks;
       left_joined =
-          append_alike (filter test merges) (diff test left right) (filter test other_merges)
-          (diff test other_left other_right) (filter_alike test merges other_merges joins) lacks;
+          append-alike (filter test merges) (diff test left right) (filter test other_merges)
+          (diff test other_left other_right) (filter-alike test merges other_merges joins) lacks;
     }
