@@ -9,8 +9,8 @@ use Rattle.filter.specs.Rows.{Row}
 use Rattle.algebra.specs.Algebra.{compatible, merge, join, diff}
 use Rattle.algebra.specs.Answers.{same_row, times}
 use Rattle.algebra.specs.Theorems.{CountedAsDefined, AsOften, OnlyCountsMatter}
-use Rattle.algebra.proofs.Lists.{total-append, total-flat_map, total-map, total-filter, total-like, total-zero}
-use Rattle.algebra.proofs.Lists.{all-every}
+use Rattle.algebra.proofs.Lists.{all-every, total-append, total-flat_map, total-map, total-filter, total-like}
+use Rattle.algebra.proofs.Lists.{total-zero}
 use Rattle.algebra.proofs.Merging.{cond-same}
 use Rattle.algebra.proofs.Rows.{same_row-true, same_row-refl, times-total}
 
@@ -64,10 +64,13 @@ times-append left right r =
 
 -- join
 
--- the total of what a join makes is that of all compatible pairs
+-- what the merge of s and t counts, if there is one
+abbrev pair : (Row → ℕ) → Row → Row → ℕ
+pair w s t = cond (compatible s t) (w (merge s t)) 0
+
+-- the total of what a join makes is that of all pairs
 total-join : (w : Row → ℕ) (left right : List Row)
-    → total w (join left right)
-    ≡ total (λ s. total (λ t. cond (compatible s t) (w (merge s t)) 0) right) left
+    → total w (join left right) ≡ total (λ s. total (pair w s) right) left
 total-join w left right =
     total-flat_map w (λ s. map (merge s) (filter (compatible s) right)) left
     ∙ total-like _ _ (λ s. total-map w (merge s) (filter (compatible s) right)
@@ -79,7 +82,9 @@ times-join : (left right : List Row) (r : Row)
 times-join left right r =
     times-total r (join left right)
     ∙ total-join (one r) left right
-    ∙ total-like _ _ (λ s. total-like _ _ (λ t. cond-and (compatible s t) (same_row r (merge s t))) right) left
+    ∙ total-like _ _
+    (λ s. total-like _ _ (λ t. cond-and (compatible s t) (same_row r (merge s t))) right)
+    left
 
 -- each operator counts as it is defined to
 pub counted_as_defined : CountedAsDefined
@@ -130,19 +135,29 @@ total-alike : (w : Row → ℕ) (rows others : List Row) → AsOften rows others
 total-alike w rows others same =
     total-as_often w rows others (λ r. sym (times-total r rows) ∙ same r ∙ times-total r others)
 
--- a test holds of all rows exactly if those of which it does not total to nothing
-list_all-total : (p : Row → Bool) (rows : List Row) → list_all p rows ≡ eqb (total (λ s. cond (p s) 0 1) rows) 0
+-- what a row that fails the test counts
+abbrev failing : (Row → Bool) → Row → ℕ
+failing p s = cond (p s) 0 1
+
+-- a test holds of all rows exactly if those that fail it total to nothing
+list_all-total : (p : Row → Bool) (rows : List Row) → list_all p rows ≡ eqb (total (failing p) rows) 0
 list_all-total p [] = refl
 list_all-total p (s ∷ rows) =
-    let rest = total (λ t. cond (p t) 0 1) rows in
-    let own : ℕ = cond (p s) 0 1 in
+    let rest = total (failing p) rows in
     ⊎_elim
-    (λ t. let none : own ≡ 0 = cond-true (p s) 0 1 t in
-    let same : rest ≡ own + rest = omega (arith, none) in
+    (λ t. let none : failing p s ≡ 0 = cond-true (p s) 0 1 t in
+    let same : rest ≡ failing p s + rest = omega (arith, none) in
     ap (λ b. b && list_all p rows) t ∙ list_all-total p rows ∙ ap (λ n. eqb n 0) same)
-    (λ f. let some : own ≡ 1 = cond-false (p s) 0 1 f in
-    ap (λ b. b && list_all p rows) f ∙ sym (ne_eqb (own + rest) 0 (λ z. omega (arith, z, some))))
+    (λ f. let some : failing p s ≡ 1 = cond-false (p s) 0 1 f in
+    ap (λ b. b && list_all p rows) f ∙ sym (ne_eqb (failing p s + rest) 0 (λ z. omega (arith, z, some))))
     (cases_Bool (p s))
+
+list_all-alike : (p : Row → Bool) (rows others : List Row) → AsOften rows others
+    → list_all p rows ≡ list_all p others
+list_all-alike p rows others same =
+    list_all-total p rows
+    ∙ ap (λ n. eqb n 0) (total-alike (failing p) rows others same)
+    ∙ sym (list_all-total p others)
 
 filter-alike : (test : Row → Bool) (rows others : List Row) → AsOften rows others
     → AsOften (filter test rows) (filter test others)
@@ -155,33 +170,29 @@ append-alike left right other_left other_right lefts rights r =
     times-append left right r ∙ ap₂ (λ n k. n + k) (lefts r) (rights r)
     ∙ sym (times-append other_left other_right r)
 
-module _ (test : Row → Bool) (left right other_left other_right : List Row) (lefts : AsOften left other_left)
-    (rights : AsOften right other_right) where
-  join-alike : AsOften (join left right) (join other_left other_right)
-  join-alike r =
-      let pairs = λ (rows : List Row) (s : Row). total (λ t. cond (compatible s t) (one r (merge s t)) 0) rows in
-      times-total r (join left right)
-      ∙ total-join (one r) left right
-      ∙ total-like _ _ (λ s. total-alike (λ t. cond (compatible s t) (one r (merge s t)) 0) right other_right rights)
-      left
-      ∙ total-alike (pairs other_right) left other_left lefts
-      ∙ sym (total-join (one r) other_left other_right)
-      ∙ sym (times-total r (join other_left other_right))
+join-alike : (left right other_left other_right : List Row) → AsOften left other_left
+    → AsOften right other_right → AsOften (join left right) (join other_left other_right)
+join-alike left right other_left other_right lefts rights r =
+    times-total r (join left right)
+    ∙ total-join (one r) left right
+    ∙ total-like _ _ (λ s. total-alike (pair (one r) s) right other_right rights) left
+    ∙ total-alike (λ s. total (pair (one r) s) other_right) left other_left lefts
+    ∙ sym (total-join (one r) other_left other_right)
+    ∙ sym (times-total r (join other_left other_right))
 
-  diff-alike : AsOften (diff test left right) (diff test other_left other_right)
-  diff-alike r =
-      let free = λ (t : Row). not (compatible r t) || not (test (merge r t)) in
-      (counted_as_defined test left right r).lacking
-      ∙ ap (λ n. cond (list_all free right) n 0) (lefts r)
-      ∙ ap (λ b. cond b (times r other_left) 0)
-      (list_all-total free right ∙ ap (λ n. eqb n 0) (total-alike (λ t. cond (free t) 0 1) right other_right rights)
-      ∙ sym (list_all-total free other_right))
-      ∙ sym (counted_as_defined test other_left other_right r).lacking
+diff-alike : (test : Row → Bool) (left right other_left other_right : List Row) → AsOften left other_left
+    → AsOften right other_right → AsOften (diff test left right) (diff test other_left other_right)
+diff-alike test left right other_left other_right lefts rights r =
+    let apart = λ (t : Row). not (compatible r t) || not (test (merge r t)) in
+    (counted_as_defined test left right r).lacking
+    ∙ ap (λ n. cond (list_all apart right) n 0) (lefts r)
+    ∙ ap (λ b. cond b (times r other_left) 0) (list_all-alike apart right other_right rights)
+    ∙ sym (counted_as_defined test other_left other_right r).lacking
 
 -- of the rows that the operators take, only counts matter
 pub only_counts_matter : OnlyCountsMatter
 only_counts_matter test left right other_left other_right lefts rights =
-    let joins = join-alike test left right other_left other_right lefts rights in
+    let joins = join-alike left right other_left other_right lefts rights in
     let lacks = diff-alike test left right other_left other_right lefts rights in
     let merges = join left right in
     let other_merges = join other_left other_right in

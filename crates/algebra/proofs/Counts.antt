@@ -1,5 +1,5 @@
--- The algebra counts every row and every answer as the listing does. What occurs equally often has the same
--- total whatever number each row counts with, and totals pass through joins. Assumes nothing.
+-- The algebra counts every answer as the listing does. Lists of which only counts matter are compared by
+-- their totals, whatever number each row counts with. Assumes nothing.
 use Rattle.std.proofs.Common.{◌≡◌, ℕ, ◌+◌, ◌≤◌, Bool, true, false, cond, not, ◌&&◌, ◌||◌}
 use Rattle.std.proofs.Common.{List, [], ◌∷◌, ◌++◌, map, map-id, refl, sym, ap, ap₂, ◌∙◌, subst, arith, ⊎_elim}
 use Rattle.std.proofs.lemmas.Bool.{cases_Bool, cases_eq, cases_lt}
@@ -17,11 +17,11 @@ use Rattle.algebra.specs.Algebra.{bgp, compatible, merge, join, diff, left_join}
 use Rattle.algebra.specs.Answers.{left_joins, solutions, Answer, numbered, answers_from, answers_to}
 use Rattle.algebra.specs.Answers.{same_answer, times_answered}
 use Rattle.algebra.proofs.Listing.{fitting, or_itself, extended, rows_of, answers_of_from, answers_of}
-use Rattle.algebra.proofs.Lists.{all-append, all-weaker, all-filter, all-flat_map, flat_map-same, flat_map-flat_map}
-use Rattle.algebra.proofs.Lists.{filter-same, filter-flat_map, total-append}
+use Rattle.algebra.proofs.Lists.{all-append, all-weaker, all-filter, all-flat_map, flat_map-same}
+use Rattle.algebra.proofs.Lists.{flat_map-flat_map, filter-same, filter-flat_map, total-append}
 use Rattle.algebra.proofs.Lists.{total-flat_map, total-map, total-filter, total-like, total-plus}
-use Rattle.algebra.proofs.Rows.{value-with_same, value-with_other, length-with_value, with_value-past, value-blank}
-use Rattle.algebra.proofs.Rows.{length-blank, times_answered-total, all-range}
+use Rattle.algebra.proofs.Rows.{value-with_same, value-with_other, length-with_value, with_value-past}
+use Rattle.algebra.proofs.Rows.{value-blank, length-blank, times_answered-total, all-range}
 use Rattle.algebra.proofs.Joins.{Valid, join-pattern}
 
 -- Valid
@@ -50,12 +50,15 @@ valid-assignments top (v ∷ vs) r h =
     (λ x l. valid-assignments top vs (with_value r v x) (valid-with_value top r v x h (omega (arith, l.1))))
     (terms top) (all-range 1 top))
 
-valid-fitting : (m : Meaning) (test : Row → Bool) (ts : List TriplePattern) (r : Row) → Valid m.top r
-    → AllByRecursion (Valid m.top) (fitting m test ts r)
-valid-fitting m test ts r h =
-    all-filter (Valid m.top) (Valid m.top) test (λ _ k _. k) (filter (stored m ts) (completions m.top ts r))
-    (all-filter (Valid m.top) (Valid m.top) (stored m ts) (λ _ k _. k) (completions m.top ts r)
-    (valid-assignments m.top (open_variables ts r) r h))
+valid-filter : (top : ℕ) (test : Row → Bool) (rows : List Row) → AllByRecursion (Valid top) rows
+    → AllByRecursion (Valid top) (filter test rows)
+valid-filter top test rows h = all-filter (Valid top) (Valid top) test (λ _ k _. k) rows h
+
+valid-completions : (m : Meaning) (ts : List TriplePattern) (r : Row) → Valid m.top r
+    → AllByRecursion (Valid m.top) (filter (stored m ts) (completions m.top ts r))
+valid-completions m ts r h =
+    valid-filter m.top (stored m ts) (completions m.top ts r)
+    (valid-assignments m.top (open_variables ts r) r h)
 
 -- left_join
 
@@ -64,7 +67,8 @@ abbrev vacant : {A : Type 0} → List A → Bool
 vacant [] = true
 vacant (x ∷ xs) = false
 
-vacant-cond : (t : Bool) (r : Row) (rows : List Row) → (not t && vacant rows) ≡ vacant (cond t (r ∷ rows) rows)
+vacant-cond : (t : Bool) (r : Row) (rows : List Row)
+    → (not t && vacant rows) ≡ vacant (cond t (r ∷ rows) rows)
 vacant-cond true r rows = refl
 vacant-cond false r rows = refl
 
@@ -87,12 +91,13 @@ partners-vacant test r (s ∷ right) =
     ∙ ap (λ b. vacant (filter test (map (merge r) (cond b (s ∷ partners) partners)))) (sym f))
     (cases_Bool (compatible r s))
 
--- rows, or where there are none one row, count as the rows and, where there are none, that row
+-- the rows, and besides them r where there are none
 total-or_itself : (w : Row → ℕ) (r : Row) (rows : List Row)
     → total w rows + cond (vacant rows) (w r) 0 ≡ total w (or_itself r rows)
 total-or_itself w r [] = omega arith
 total-or_itself w r (s ∷ rows) = omega arith
 
+-- the two parts of a left join, put together row by row
 total-left : (w : Row → ℕ) (fits : Row → List Row) (left : List Row)
     → total w (flat_map fits left ++ filter (λ r. vacant (fits r)) left)
     ≡ total w (flat_map (λ r. or_itself r (fits r)) left)
@@ -127,7 +132,7 @@ module _ (m : Meaning) (test : Row → Bool) (ts : List TriplePattern) (left : L
   left_join-fits = ap₂ (λ xs ys. xs ++ ys) join-fits diff-fits
 
   -- a left join with a basic pattern counts as each row's fits, or where it has none the row itself
-  pub total-left_join : (w : Row → ℕ)
+  total-left_join : (w : Row → ℕ)
       → total w (left_join test left (bgp m ts))
       ≡ total w (flat_map (λ r. or_itself r (fitting m test ts r)) left)
   total-left_join w = ap (total w) left_join-fits ∙ total-left w (fitting m test ts) left
@@ -137,17 +142,18 @@ module _ (m : Meaning) (test : Row → Bool) (ts : List TriplePattern) (left : L
       subst (AllByRecursion (Valid m.top)) (sym left_join-fits)
       (all-append (Valid m.top) _ _
       (all-flat_map (Valid m.top) (fitting m test ts) left
-      (all-weaker _ _ (valid-fitting m test ts) left valid))
-      (all-filter (Valid m.top) (Valid m.top) _ (λ _ k _. k) left valid))
+      (all-weaker _ _ (λ r h. valid-filter m.top test _ (valid-completions m ts r h)) left valid))
+      (valid-filter m.top _ left valid))
 
--- the blocks
+-- left_joins, solutions, answers_to
 
 -- the row as an answer of alternative a
 abbrev answer_of : ℕ → Row → Answer
 answer_of a r = record { alternative = a; row = r }
 
 module _ (m : Meaning) (e : ℕ → Entry) where
-  pub total-left_joins : (bs : List Part) (w : Row → ℕ) (left : List Row) → AllByRecursion (Valid m.top) left
+  -- left joins with the blocks count as what the blocks make of each row
+  total-left_joins : (bs : List Part) (w : Row → ℕ) (left : List Row) → AllByRecursion (Valid m.top) left
       → total w (left_joins m e left bs) ≡ total w (flat_map (extended m e bs) left)
   total-left_joins [] w left valid =
       ap (total w) (sym (flat_map_single (λ r. r) left ∙ map-id left))
@@ -162,19 +168,15 @@ module _ (m : Meaning) (e : ℕ → Entry) where
       ∙ sym (total-flat_map w (extended m e bs) (flat_map step left))
       ∙ ap (total w) (flat_map-flat_map (extended m e bs) step left)
 
-  -- an alternative
-
+  -- the solutions of an alternative count as its rows in the listing
   pub total-solutions : (g : Group) (w : Row → ℕ) → total w (solutions m e g) ≡ total w (rows_of m e g)
   total-solutions g w =
       let test = passes e g.filter in
       let first = bgp m g.required in
       total-filter w test (left_joins m e first g.blocks)
       ∙ total-left_joins g.blocks (λ r. cond (test r) (w r) 0) first
-      (all-filter (Valid m.top) (Valid m.top) (stored m g.required) (λ _ k _. k) (completions m.top g.required blank)
-      (valid-assignments m.top (open_variables g.required blank) blank (valid-blank m.top)))
+      (valid-completions m g.required blank (valid-blank m.top))
       ∙ sym (total-filter w test (flat_map (extended m e g.blocks) first))
-
-  -- a query
 
   total-answers : (w : Answer → ℕ) (a : ℕ) (q : List Group)
       → total w (answers_of_from m e a q) ≡ total w (answers_from m e a q)
