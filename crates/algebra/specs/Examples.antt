@@ -1,35 +1,92 @@
--- Worked examples: numbers, a small store, queries by their bytes. Assumes nothing.
-use Rattle.std.specs.Prelude.{ℕ, List, [], ◌∷◌, Some, None, Option}
-use Rattle.catalogue.specs.Entries.{Entry, unlisted}
-use Rattle.query.specs.Grammar.{Verdict, verdict, accepted, rejected}
-use Rattle.query.specs.Parts.{Group}
-use Rattle.triples.specs.declared.triple.Triple.{Triple}
-use Rattle.triples.specs.Meaning.{Meaning, listed}
+-- Worked examples: numbers, seeks, and queries by their bytes over a small store. Assumes nothing.
+use Rattle.std.specs.Prelude.{◌≡◌, ℕ, [], ◌∷◌, length, Some, None}
+use Rattle.refusal.specs.declared.refusal.Refusal.TheVariants.{Malformed, SharedByBlocks}
+use Rattle.refusal.specs.Numbers.{published}
+use Rattle.varint.specs.Encode.{encode}
+use Rattle.varint.specs.Decode.{decode, decoded, malformed}
+use Rattle.query.specs.Grammar.{verdict, rejected}
+use Rattle.query.specs.Readers.{refused, number}
+use Rattle.triples.specs.Seeks.{Sought}
+use Rattle.filter.specs.Rows.{Row}
+use Rattle.algebra.specs.Admissions.{every_term, look_ahead}
+use Rattle.algebra.specs.Patterns.{blank}
 use Rattle.algebra.specs.Answers.{Answer}
-use Rattle.algebra.specs.Admissions.{Admission}
-use Rattle.algebra.specs.Walk.{Mark, walk}
+use Rattle.algebra.specs.Walk.{try, answer}
+use Rattle.algebra.specs.Deliveries.{triple, selector, deliveries, onward, kept_back, onward_by_less}
+use Rattle.algebra.specs.Deliveries.{went_into, nothing_asked, asked_twice, shared}
+use Rattle.algebra.specs.Deliveries.{of_bytes, walked, tries, packed_answers, defined}
 
--- a triple by its three numbers
-abbrev triple : ℕ → ℕ → ℕ → Triple
-triple s p o = record { subject = s; property = p; object = o }
+-- variable 0 is batch 2, variable 1 is farm 6
+abbrev pub first_batch_at_farm : Row
+first_batch_at_farm = 2 ∷ 6 ∷ 0 ∷ 0 ∷ 0 ∷ 0 ∷ 0 ∷ 0 ∷ 0 ∷ 0 ∷ 0 ∷ 0 ∷ 0 ∷ 0 ∷ 0 ∷ 0 ∷ []
 
--- lot 1 went into (4) batches 2 and 3, batch 2 was delivered to (5) farm 6
-abbrev pub deliveries : Meaning
-deliveries = listed 6 (triple 1 4 2 ∷ triple 1 4 3 ∷ triple 2 5 6 ∷ [])
+-- variable 0 is batch 2
+abbrev pub first_batch_alone : Row
+first_batch_alone = 2 ∷ 0 ∷ 0 ∷ 0 ∷ 0 ∷ 0 ∷ 0 ∷ 0 ∷ 0 ∷ 0 ∷ 0 ∷ 0 ∷ 0 ∷ 0 ∷ 0 ∷ 0 ∷ []
 
--- every term is a name
-abbrev pub names : ℕ → Entry
-names n = unlisted
+-- variable 0 is batch 3
+abbrev pub second_batch_alone : Row
+second_batch_alone = 3 ∷ 0 ∷ 0 ∷ 0 ∷ 0 ∷ 0 ∷ 0 ∷ 0 ∷ 0 ∷ 0 ∷ 0 ∷ 0 ∷ 0 ∷ 0 ∷ 0 ∷ 0 ∷ []
 
--- what lot 1 went into, and where that went on to, if anywhere
-abbrev pub onward : List ℕ
-onward = 1 ∷ 1 ∷ 2 ∷ 8 ∷ 1 ∷ 1 ∷ 1 ∷ 1 ∷ 10 ∷ 3 ∷ 0 ∷ 0 ∷ []
+-- variable 0 is farm 6
+abbrev pub farm_alone : Row
+farm_alone = 6 ∷ 0 ∷ 0 ∷ 0 ∷ 0 ∷ 0 ∷ 0 ∷ 0 ∷ 0 ∷ 0 ∷ 0 ∷ 0 ∷ 0 ∷ 0 ∷ 0 ∷ 0 ∷ []
 
--- the query that the bytes are, taken to what is said of it; none where they are no query
-abbrev pub of_query : {A : Type 0} → (List Group → A) → Verdict → Option A
-of_query f (accepted q) = Some (f q)
-of_query f (rejected refusal place) = None
+-- an answer of alternative a
+abbrev pub in_alternative : ℕ → Row → Answer
+in_alternative a r = record { alternative = a; row = r }
 
--- the marks of the query over the deliveries
-abbrev pub marks_of : Admission → List ℕ → Option (List (Mark Answer))
-marks_of admits bytes = of_query (walk deliveries names admits) (verdict bytes)
+-- the examples, each named by what it shows
+pub record WorkedExamples : Type 0 where
+  -- 300 is AC 02: two groups of seven bits, the lowest first
+  pub two_bytes_written : encode 300 ≡ 0xAC ∷ 0x02 ∷ []
+  pub two_bytes_read : decode (0xAC ∷ 0x02 ∷ []) ≡ decoded 300 2
+  -- 1,000,000 is C0 84 3D
+  pub three_bytes_written : encode 1_000_000 ≡ 0xC0 ∷ 0x84 ∷ 0x3D ∷ []
+  pub three_bytes_read : decode (0xC0 ∷ 0x84 ∷ 0x3D ∷ []) ≡ decoded 1_000_000 3
+  -- FF FF FF FF 0F is 4,294,967,295, the largest number of 32 bits
+  pub largest_written : encode 4_294_967_295 ≡ 0xFF ∷ 0xFF ∷ 0xFF ∷ 0xFF ∷ 0x0F ∷ []
+  pub largest_read : decode (0xFF ∷ 0xFF ∷ 0xFF ∷ 0xFF ∷ 0x0F ∷ []) ≡ decoded 4_294_967_295 5
+  -- FF FF FF FF 10 would be larger: it is malformed, which a reader of queries refuses by the number 12
+  pub larger_malformed : decode (0xFF ∷ 0xFF ∷ 0xFF ∷ 0xFF ∷ 0x10 ∷ []) ≡ malformed
+  pub larger_refused : number 0 (0xFF ∷ 0xFF ∷ 0xFF ∷ 0xFF ∷ 0x10 ∷ []) ≡ refused Malformed 0
+  pub malformed_published : published Malformed ≡ 12
+  -- a seek for property 4 that starts at a triple with it finds that triple
+  pub seek_finds_its_start :
+      Sought deliveries.has (selector 0 4 0) (triple 1 4 3) (Some (triple 1 4 3))
+  -- behind the last triple with property 4 there is none, though a triple with property 5 follows
+  pub seek_finds_none_behind_the_last : Sought deliveries.has (selector 0 4 0) (triple 1 4 4) None
+  -- batch 2 is tried and then farm 6, which gives an answer; batch 3 is tried, nothing is worth a try for
+  -- where it went on to, and the row goes on without
+  pub block_extends_or_is_left : of_bytes (walked look_ahead) onward
+      ≡ Some (try 0 2 ∷ try 1 6 ∷ answer (in_alternative 0 first_batch_at_farm)
+      ∷ try 0 3 ∷ answer (in_alternative 0 second_batch_alone) ∷ [])
+  -- the two answers as bytes: alternative 0, variables 0 and 1 (mask 3), their values 2 and 6; alternative 0,
+  -- variable 0 (mask 1), its value 3
+  pub answers_packed : of_bytes (packed_answers look_ahead) onward
+      ≡ Some ((0x00 ∷ 0x03 ∷ 0x02 ∷ 0x06 ∷ []) ∷ (0x00 ∷ 0x01 ∷ 0x03 ∷ []) ∷ [])
+  -- the algebra gives the rows that the walk lists, here in the same order
+  pub algebra_gives_the_rows_walked : of_bytes defined onward
+      ≡ Some (in_alternative 0 first_batch_at_farm ∷ in_alternative 0 second_batch_alone ∷ [])
+  -- where every term is tried, it is six tries for variable 0, and six more for variable 1 behind each of the
+  -- two batches
+  pub every_term_tried : of_bytes (tries every_term) onward ≡ Some 18
+  -- six tries for variable 0 and six behind each of them; looking ahead, lot 1 and its two batches
+  pub every_pair_tried : of_bytes (tries every_term) went_into ≡ Some 42
+  pub only_what_matches_tried : of_bytes (tries look_ahead) went_into ≡ Some 3
+  -- the filter asks that variable 1 has no value: the row that a block extended does not pass it
+  pub extended_row_filtered : of_bytes (packed_answers look_ahead) kept_back
+      ≡ Some ((0x00 ∷ 0x01 ∷ 0x03 ∷ []) ∷ [])
+  -- an error in a block's filter is no fit: both rows go on without the block
+  pub error_leaves_the_row : of_bytes defined onward_by_less
+      ≡ Some (in_alternative 0 first_batch_alone ∷ in_alternative 0 second_batch_alone ∷ [])
+  -- who asks nothing gets one answer, the row without values, and nothing is tried
+  pub nothing_asked_answered_once : of_bytes (walked every_term) nothing_asked
+      ≡ Some (answer (in_alternative 0 blank) ∷ [])
+  pub blank_row_packed : of_bytes (packed_answers every_term) nothing_asked ≡ Some ((0x00 ∷ 0x00 ∷ []) ∷ [])
+  -- two equal alternatives have the same row once in each
+  pub same_row_once_in_each : of_bytes defined asked_twice
+      ≡ Some (in_alternative 0 farm_alone ∷ in_alternative 1 farm_alone ∷ [])
+  -- a variable of two blocks that nothing requires is refused, at the end of the bytes, by the number 17
+  pub shared_refused : verdict shared ≡ rejected SharedByBlocks (length shared)
+  pub shared_published : published SharedByBlocks ≡ 17

@@ -8,4 +8,5 @@ pub mod Walk  -- the walk, mark by mark
 pub mod Words  -- a query's answers, without the algebra
 pub mod Packing  -- an answer as bytes
 pub mod Theorems  -- what this crate proves
-pub mod Examples  -- worked examples
+pub mod Deliveries  -- a small store, and queries over it by their bytes
+pub mod Examples  -- worked examples over it

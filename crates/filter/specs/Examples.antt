@@ -1,0 +1,90 @@
+-- Worked examples of filters: each rule once, over a small catalogue. Assumes nothing.
+use Rattle.std.specs.Prelude.{◌≡◌, ℕ, ℤ, pos, negsuc, List, [], ◌∷◌, slice_index_or}
+use Rattle.catalogue.specs.declared.kind.Kind.TheVariants.{Text, Integer}
+use Rattle.catalogue.specs.Entries.{Entry, unlisted}
+use Rattle.query.specs.declared.node.Node as node
+use Rattle.query.specs.declared.node.Node.TheVariants.{Equal, Less, Bound, Not, And, Or}
+use Rattle.query.specs.declared.place.Place.TheVariants.{Variable, Term}
+use Rattle.filter.specs.declared.truth.Truth.{Truth}
+use Rattle.filter.specs.declared.truth.Truth.TheVariants.{False, True, Error}
+use Rattle.filter.specs.Rows.{Row}
+use Rattle.filter.specs.Filters.{filter_truth}
+
+-- an integer of the value
+abbrev pub integer : ℤ → Entry
+integer value = record { kind = Integer; value = value }
+
+-- a text
+abbrev pub text : Entry
+text = record { kind = Text; value = pos 0 }
+
+-- 1 and 2 are integers of the value 7, 3 is -2, 4 and 5 are texts, every other number is a name
+abbrev pub goods : ℕ → Entry
+goods n =
+    slice_index_or
+    (unlisted ∷ integer (pos 7) ∷ integer (pos 7) ∷ integer (negsuc 1) ∷ text ∷ text ∷ []) n unlisted
+
+-- variable 0 is integer 1, variable 1 is text 4, no other variable has a value
+abbrev pub lot : Row
+lot = 1 ∷ 4 ∷ 0 ∷ 0 ∷ 0 ∷ 0 ∷ 0 ∷ 0 ∷ 0 ∷ 0 ∷ 0 ∷ 0 ∷ 0 ∷ 0 ∷ 0 ∷ 0 ∷ []
+
+-- the truth of the filter on the row lot
+abbrev pub truth_on_lot : List node.Node → Truth
+truth_on_lot nodes = filter_truth goods lot nodes
+
+-- a node that is true there
+abbrev pub holding : node.Node
+holding = Bound 0
+
+-- a node that is false there
+abbrev pub failing : node.Node
+failing = Bound 2
+
+-- a node that is an error there
+abbrev pub erring : node.Node
+erring = Less (Variable 1) (Term 5)
+
+-- the rules, each by an example
+pub record FilterExamples : Type 0 where
+  -- equal and less are errors if a variable in them has no value
+  pub equal_without_value : truth_on_lot (Equal (Variable 2) (Term 1) ∷ []) ≡ Error
+  pub equal_without_values : truth_on_lot (Equal (Variable 2) (Variable 2) ∷ []) ≡ Error
+  pub less_without_value : truth_on_lot (Less (Term 3) (Variable 2) ∷ []) ≡ Error
+  -- two integers are equal by their values
+  pub equal_values : truth_on_lot (Equal (Variable 0) (Term 2) ∷ []) ≡ True
+  pub other_values : truth_on_lot (Equal (Variable 0) (Term 3) ∷ []) ≡ False
+  -- any other two terms are equal if they are one number: two texts, a text and an integer, a name
+  pub two_texts : truth_on_lot (Equal (Variable 1) (Term 5) ∷ []) ≡ False
+  pub one_text : truth_on_lot (Equal (Variable 1) (Term 4) ∷ []) ≡ True
+  pub text_and_integer : truth_on_lot (Equal (Variable 1) (Variable 0) ∷ []) ≡ False
+  pub one_name : truth_on_lot (Equal (Term 6) (Term 6) ∷ []) ≡ True
+  -- of two integers the one with the smaller value is less, whatever their numbers are
+  pub smaller_value : truth_on_lot (Less (Term 3) (Variable 0) ∷ []) ≡ True
+  pub greater_value : truth_on_lot (Less (Variable 0) (Term 3) ∷ []) ≡ False
+  pub value_not_less_than_itself : truth_on_lot (Less (Variable 0) (Term 2) ∷ []) ≡ False
+  -- less is an error for all else: two texts, an integer and a text, two names
+  pub less_of_texts : truth_on_lot (Less (Variable 1) (Term 5) ∷ []) ≡ Error
+  pub less_of_integer_and_text : truth_on_lot (Less (Term 3) (Variable 1) ∷ []) ≡ Error
+  pub less_of_names : truth_on_lot (Less (Term 6) (Term 7) ∷ []) ≡ Error
+  -- bound is true for a variable with a value, and false for one without
+  pub with_value : truth_on_lot (Bound 0 ∷ []) ≡ True
+  pub without_value : truth_on_lot (Bound 2 ∷ []) ≡ False
+  -- not swaps true and false, and keeps an error
+  pub not_true : truth_on_lot (holding ∷ Not 0 ∷ []) ≡ False
+  pub not_false : truth_on_lot (failing ∷ Not 0 ∷ []) ≡ True
+  pub not_error : truth_on_lot (erring ∷ Not 0 ∷ []) ≡ Error
+  -- and is false if either is, else an error if either is, else true
+  pub false_and_error : truth_on_lot (failing ∷ erring ∷ And 0 1 ∷ []) ≡ False
+  pub error_and_false : truth_on_lot (failing ∷ erring ∷ And 1 0 ∷ []) ≡ False
+  pub true_and_error : truth_on_lot (holding ∷ erring ∷ And 0 1 ∷ []) ≡ Error
+  pub true_and_false : truth_on_lot (holding ∷ failing ∷ And 0 1 ∷ []) ≡ False
+  pub true_and_true : truth_on_lot (holding ∷ And 0 0 ∷ []) ≡ True
+  -- or is true if either is, else an error if either is, else false
+  pub true_or_error : truth_on_lot (holding ∷ erring ∷ Or 0 1 ∷ []) ≡ True
+  pub error_or_true : truth_on_lot (holding ∷ erring ∷ Or 1 0 ∷ []) ≡ True
+  pub false_or_error : truth_on_lot (failing ∷ erring ∷ Or 0 1 ∷ []) ≡ Error
+  pub false_or_true : truth_on_lot (failing ∷ holding ∷ Or 0 1 ∷ []) ≡ True
+  pub false_or_false : truth_on_lot (failing ∷ Or 0 0 ∷ []) ≡ False
+  -- the last node gives the truth, and without nodes it is true
+  pub last_node_counts : truth_on_lot (erring ∷ failing ∷ holding ∷ []) ≡ True
+  pub no_nodes : truth_on_lot [] ≡ True
