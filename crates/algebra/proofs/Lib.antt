@@ -3,4 +3,9 @@ pub mod Listing  -- the answers of the walk, as plain lists
 pub mod Lists  -- laws of lists
 pub mod Rows  -- laws of rows
 pub mod Assignments  -- the rows that give some variables values
+pub mod Patterns  -- laws of triple patterns under rows
+pub mod Merging  -- rows compared and merged
+pub mod Joins  -- joins with a basic pattern
+pub mod Counts  -- the algebra counts as the listing
+pub mod Cardinalities  -- how often a row occurs in what the operators make
 pub mod Examples  -- the worked examples hold
