@@ -4,3 +4,8 @@ pub mod Lists  -- laws of lists
 pub mod Rows  -- laws of rows
 pub mod Assignments  -- the rows that give some variables values
 pub mod Examples  -- the worked examples hold
+pub mod Ascents  -- lists that ascend
+pub mod Flat  -- rows compared variable by variable
+pub mod Blocks  -- what blocks do to a row
+pub mod Orders  -- the order in which answers come
+pub mod Ordered  -- the listing ascends
