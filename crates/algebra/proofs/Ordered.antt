@@ -26,7 +26,7 @@ use Rattle.algebra.proofs.Flat.{Less, lowest-kept}
 use Rattle.algebra.proofs.Blocks.{in_blocks, Kept, Fitted, kept-self, kept-value, fitted-lowest}
 use Rattle.algebra.proofs.Blocks.{fitting-fitted, fitting-ascends, stored-fitted, stored-ascends}
 use Rattle.algebra.proofs.Blocks.{extended-kept}
-use Rattle.algebra.proofs.Orders.{Ahead, ahead-first, ahead-later, before-ahead}
+use Rattle.algebra.proofs.Orders.{Ahead, ahead-first, ahead-later, before-ahead, before-never}
 
 -- what blocks make of rows
 
@@ -162,9 +162,6 @@ rows-ascend m e g h =
     (all-every (λ _. Unit {0}) (λ _. tt) all)
     (ascending-fitted m e 0 g.required g.blocks blank long each rows (stored-fitted m g.required blank long)
     (stored-ascends m g.required blank long)))
-
-before-never : (g : Group) (r : Row) → Before g r r → ⊥
-before-never g r b = omega (arith, b.smaller)
 
 -- an alternative has no row twice
 pub rows_once : (m : Meaning) (e : ℕ → Entry) (g : Group) → shares g ≡ false → (r : Row)
