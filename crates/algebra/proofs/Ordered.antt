@@ -1,6 +1,6 @@
 -- The listing ascends, so it has nothing twice. Assumes nothing.
 use Rattle.std.proofs.Common.{◌≡◌, ℕ, suc, ◌+◌, ◌<◌, ◌≤◌, true, false, not, ◌&&◌, ◌⊎◌, List, [], ◌∷◌}
-use Rattle.std.proofs.Common.{map, length, slice_index_or, refl, sym, ap, ap₂, ◌∙◌, subst, ⊎_elim, inl, inr}
+use Rattle.std.proofs.Common.{map, length, slice_index_or, refl, sym, ap, ◌∙◌, subst, ⊎_elim, inl, inr}
 use Rattle.std.proofs.Common.{append-nil, add-zero, zero-add, arith}
 use Rattle.std.proofs.lemmas.Bool.{cases_Bool, cases_lt, both_ways, or_parts, and_cases}
 use Rattle.std.proofs.lemmas.Bool.{and_parts, and_from, not-true, false_from_ne_true, not_from_false}
@@ -18,15 +18,16 @@ use Rattle.algebra.specs.Patterns.{blank, stored, completions, open_variables}
 use Rattle.algebra.specs.Answers.{Answer, numbered, same_row, same_answer, times, times_answered}
 use Rattle.algebra.specs.Order.{parts_of, no_group, Before, Precedes, Ascending}
 use Rattle.algebra.proofs.Lists.{all-every, all-append, all-map, all-weaker}
-use Rattle.algebra.proofs.Rows.{value-past, length-blank, same_row-true, same_answer-true}
+use Rattle.algebra.proofs.Rows.{length-blank, same_row-true, same_answer-true}
 use Rattle.algebra.proofs.Listing.{fitting, or_itself, extended, rows_of, answers_of_from, answers_of}
 use Rattle.algebra.proofs.Ascents.{ascending-append, ascending-filter, ascending-map, ascending-weaker}
 use Rattle.algebra.proofs.Ascents.{ascending-flat_map, ascending-once}
-use Rattle.algebra.proofs.Flat.{Less, lowest-kept}
+use Rattle.algebra.proofs.Flat.{same-past, Less, lowest-kept}
 use Rattle.algebra.proofs.Blocks.{in_blocks, Kept, Fitted, kept-self, kept-value, fitted-lowest}
 use Rattle.algebra.proofs.Blocks.{fitting-fitted, fitting-ascends, stored-fitted, stored-ascends}
 use Rattle.algebra.proofs.Blocks.{extended-kept}
-use Rattle.algebra.proofs.Orders.{Ahead, ahead-first, ahead-later, before-ahead, before-never}
+use Rattle.algebra.proofs.Orders.{Ahead, ahead-first, ahead-later, before-ahead, before-never, same-answer}
+use Rattle.algebra.proofs.Orders.{precedes-never}
 
 -- what blocks make of rows
 
@@ -41,8 +42,7 @@ settled-same : (ts : List TriplePattern) (bs : List Part) (r : Row) → length r
 settled-same ts bs r h settled s t k l v m =
     ⊎_elim
     (λ small. k.same v (settled v small m) ∙ sym (l.same v (settled v small m)))
-    (λ large. value-past s v (subst (λ n. n ≤ v) (sym (k.long ∙ h)) large)
-    ∙ sym (value-past t v (subst (λ n. n ≤ v) (sym (l.long ∙ h)) large)))
+    (same-past s t (k.long ∙ h) (l.long ∙ h) v)
     (cases_lt v variables)
 
 settled-kept : (ts : List TriplePattern) (bs : List Part) (r : Row) → length r ≡ variables → Settled ts bs r
@@ -219,15 +219,6 @@ pub listing_ascends : (m : Meaning) (e : ℕ → Entry) (q : List Group) → law
 listing_ascends m e q h =
     answers-ascend m e q 0 q (λ i. ap (λ j. slice_index_or q j no_group) (zero-add i))
     (not-true (list_any shares q) (and_parts (limited q) (not (list_any shares q)) h).1)
-
-same-answer : (a b : Answer) → a.alternative ≡ b.alternative → a.row ≡ b.row → a ≡ b
-same-answer a b p q =
-    let of : ℕ → Row → Answer = (λ n r. record { alternative = n; row = r }) in ap₂ of p q
-
-precedes-never : (q : List Group) (a : Answer) → Precedes q a a → ⊥
-precedes-never q a =
-    ⊎_elim (λ l. omega (arith, l))
-    (λ b. before-never (slice_index_or q a.alternative no_group) a.row b.1)
 
 -- no answer is listed twice
 pub listing_once : (m : Meaning) (e : ℕ → Entry) (q : List Group) → lawful q ≡ true → (a : Answer)

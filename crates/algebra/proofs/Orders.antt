@@ -1,14 +1,22 @@
 -- The order in which answers come. Assumes nothing.
 --     Ahead k parts r s     Before, of a list of parts counted from k
-use Rattle.std.proofs.Common.{◌≡◌, ℕ, ◌+◌, ◌<◌, ◌≤◌, true, false, List, [], ◌∷◌, Option, Some}
-use Rattle.std.proofs.Common.{◌⊎◌, inl, inr, refl, sym, ap, ◌∙◌, subst, subst₂, ⊎_elim, lt_trans, arith}
+use Rattle.std.proofs.Common.{◌≡◌, ℕ, ◌+◌, ◌<◌, ◌≤◌, true, false, ◌⊎◌, List, [], ◌∷◌, length}
+use Rattle.std.proofs.Common.{slice_index_or, Option, Some, None, inl, inr, ⊎_elim, refl, sym, ap, ap₂, ◌∙◌}
+use Rattle.std.proofs.Common.{subst, subst₂, lt_trans, arith}
 use Rattle.std.proofs.lemmas.Bool.{cases_Bool, cases_eq, cases_lt, cond-true, cond-false}
+use Rattle.catalogue.specs.Entries.{Entry}
 use Rattle.query.specs.declared.pattern.TriplePattern.{TriplePattern}
 use Rattle.query.specs.Lawful.{mentions}
+use Rattle.query.specs.Limits.{variables}
 use Rattle.query.specs.Parts.{Group}
-use Rattle.filter.specs.Rows.{Row, value}
-use Rattle.algebra.specs.Order.{parts_of, part_from, part_of, Before}
-use Rattle.algebra.proofs.Flat.{Lowest}
+use Rattle.triples.specs.Meaning.{Meaning}
+use Rattle.filter.specs.Rows.{Row, none, value}
+use Rattle.algebra.specs.Answers.{Answer}
+use Rattle.algebra.specs.Order.{parts_of, part_from, part_of, no_group, Before, Precedes}
+use Rattle.algebra.specs.Words.{Answered}
+use Rattle.algebra.specs.Theorems.{OrderIsTotal}
+use Rattle.algebra.proofs.Rows.{row-from_values}
+use Rattle.algebra.proofs.Flat.{same-past, Lowest, lowest-cases}
 
 -- among rows over the parts, of which the first has the number k, r comes before s
 pub record Ahead (k : ℕ) (parts : List (List TriplePattern)) (r s : Row) : Type 0 where
@@ -100,7 +108,10 @@ sooner-then : (p w k v l u : ℕ) → Sooner p w k v → Sooner k v l u → Soon
 sooner-then p w k v l u a b =
     ⊎_elim
     (λ i. ⊎_elim (λ j. inl (omega (arith, i, j))) (λ j. inl (omega (arith, i, j.0))) b)
-    (λ i. ⊎_elim (λ j. inl (omega (arith, i.0, j))) (λ j. inr (omega (arith, i.0, j.0), omega (arith, i.1, j.1))) b)
+    (λ i. ⊎_elim
+    (λ j. inl (omega (arith, i.0, j)))
+    (λ j. inr (omega (arith, i.0, j.0), omega (arith, i.1, j.1)))
+    b)
     a
 
 sooner-cases : (p w k v : ℕ) → Sooner p w k v ⊎ (Sooner k v p w ⊎ ((p ≡ k) × (w ≡ v)))
@@ -110,7 +121,10 @@ sooner-cases p w k v =
     (λ l. ⊎_elim
     (λ e. ⊎_elim
     (λ i. inl (inr (e, i)))
-    (λ i. ⊎_elim (λ j. inr (inr (e, j))) (λ n. inr (inl (inr (omega (arith, e), omega (arith, i, n))))) (cases_eq w v))
+    (λ i. ⊎_elim
+    (λ j. inr (inr (e, j)))
+    (λ n. inr (inl (inr (omega (arith, e), omega (arith, i, n)))))
+    (cases_eq w v))
     (cases_lt w v))
     (λ n. inr (inl (inl (omega (arith, l, n)))))
     (cases_eq p k))
@@ -159,7 +173,87 @@ module _ (g : Group) where
         (λ w p o l. before-same r s b w p o l
         ∙ before-same s t c w p o (subst₂ (λ k v. Sooner p w k v) e i l))
 
-    pub before-then : Before g r t
+    before-then : Before g r t
     before-then =
         ⊎_elim onward-first (⊎_elim onward-second (λ h. onward-both h.0 h.1))
         (sooner-cases b.part b.variable c.part c.variable)
+
+-- rows that agree at the variables of all parts, or one of them comes first
+
+module _ (r s : Row) (one : length r ≡ variables) (two : length s ≡ variables) where
+  ahead-cases : (k : ℕ) (parts : List (List TriplePattern))
+      → ((v p : ℕ) → part_from v k parts ≡ Some p → value r v ≡ value s v)
+      ⊎ (Ahead k parts r s ⊎ Ahead k parts s r)
+  ahead-cases k [] = inl (λ v p e. absurd cc)
+  ahead-cases k (ts ∷ parts) =
+      ⊎_elim
+      (λ agree. let same : (v : ℕ) → mentions v ts ≡ true → value r v ≡ value s v =
+      (λ v t. ⊎_elim (agree v t (omega arith)) (same-past r s one two v) (cases_lt v variables)) in
+      ⊎_elim
+      (λ rest. inl (λ v p e. same-unless k ts parts r s same v (Some p) e (rest v p)))
+      (⊎_elim
+      (λ a. inr (inl (ahead-later k ts parts r s same a)))
+      (λ a. inr (inr (ahead-later k ts parts s r (λ v t. sym (same v t)) a))))
+      (ahead-cases (k + 1) parts))
+      (⊎_elim
+      (λ l. inr (inl (ahead-first k ts parts r s l)))
+      (λ l. inr (inr (ahead-first k ts parts s r l))))
+      (lowest-cases (λ v. mentions v ts) r s 0 variables)
+
+  -- rows that have no values elsewhere
+  before-cases : (g : Group) → ((v : ℕ) → part_of g v ≡ None → value r v ≡ none)
+      → ((v : ℕ) → part_of g v ≡ None → value s v ≡ none) → (r ≡ s) ⊎ (Before g r s ⊎ Before g s r)
+  before-cases g h k =
+      ⊎_elim
+      (λ same. let by : (v : ℕ) (o : Option ℕ) → part_of g v ≡ o → value r v ≡ value s v =
+      (λ v o. elim o as (λ o. part_of g v ≡ o → value r v ≡ value s v)
+      [ None ↦ λ e. h v e ∙ sym (k v e) | Some p ↦ λ e. same v p e ]) in
+      inl (row-from_values r s (one ∙ sym two) (λ v. by v (part_of g v) refl)))
+      (⊎_elim (λ a. inr (inl (before-ahead g r s a))) (λ a. inr (inr (before-ahead g s r a))))
+      (ahead-cases 0 (parts_of g))
+
+-- Precedes
+
+pub same-answer : (a b : Answer) → a.alternative ≡ b.alternative → a.row ≡ b.row → a ≡ b
+same-answer a b p q =
+    let of : ℕ → Row → Answer = (λ n r. record { alternative = n; row = r }) in ap₂ of p q
+
+module _ (q : List Group) where
+  -- the alternative of an answer
+  abbrev group : ℕ → Group
+  group n = slice_index_or q n no_group
+
+  pub precedes-never : (a : Answer) → Precedes q a a → ⊥
+  precedes-never a = ⊎_elim (λ l. omega (arith, l)) (λ b. before-never (group a.alternative) a.row b.1)
+
+  precedes-then : (a b c : Answer) → Precedes q a b → Precedes q b c → Precedes q a c
+  precedes-then a b c h k =
+      ⊎_elim
+      (λ i. ⊎_elim (λ j. inl (omega (arith, i, j))) (λ j. inl (omega (arith, i, j.0))) k)
+      (λ i. ⊎_elim (λ j. inl (omega (arith, i.0, j)))
+      (λ j. inr (
+        i.0 ∙ j.0,
+        before-then (group a.alternative) a.row b.row c.row i.1
+            (subst (λ n. Before (group n) b.row c.row) (sym i.0) j.1),
+      )) k)
+      h
+
+  module _ (m : Meaning) (e : ℕ → Entry) where
+    precedes-cases : (a b : Answer) → Answered m e (group a.alternative) a.row
+        → Answered m e (group b.alternative) b.row → (a ≡ b) ⊎ (Precedes q a b ⊎ Precedes q b a)
+    precedes-cases a b h k =
+        ⊎_elim
+        (λ l. inr (inl (inl l)))
+        (λ l. ⊎_elim
+        (λ i. ⊎_elim
+        (λ r. inl (same-answer a b i r))
+        (⊎_elim (λ c. inr (inl (inr (i, c))))
+        (λ c. inr (inr (inr (sym i, subst (λ n. Before (group n) b.row a.row) i c)))))
+        (before-cases a.row b.row h.long k.long (group a.alternative) h.others
+        (subst (λ n. (v : ℕ) → part_of (group n) v ≡ None → value b.row v ≡ none) (sym i) k.others)))
+        (λ n. inr (inr (inl (omega (arith, l, n)))))
+        (cases_eq a.alternative b.alternative))
+        (cases_lt a.alternative b.alternative)
+
+    pub order_is_total : OrderIsTotal m e q
+    order_is_total = record { never = precedes-never; onward = precedes-then; either = precedes-cases }
