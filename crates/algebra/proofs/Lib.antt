@@ -9,3 +9,8 @@ pub mod Joins  -- joins with a basic pattern
 pub mod Counts  -- the algebra counts as the listing
 pub mod Cardinalities  -- how often a row occurs in what the operators make
 pub mod Examples  -- the worked examples hold
+pub mod Ascents  -- lists that ascend
+pub mod Flat  -- rows compared variable by variable
+pub mod Blocks  -- what blocks do to a row
+pub mod Orders  -- the order in which answers come
+pub mod Ordered  -- the listing ascends

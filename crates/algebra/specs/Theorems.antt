@@ -1,6 +1,6 @@
 -- What this crate proves of every query, store and catalogue. Assumes nothing.
 use Rattle.std.specs.Prelude.{◌≡◌, ℕ, ◌+◌, ◌<◌, ◌≤◌, Bool, true, cond, not, ◌&&◌, ◌||◌, List}
-use Rattle.std.specs.Prelude.{◌∷◌, ◌++◌, length, slice_index_or}
+use Rattle.std.specs.Prelude.{◌⊎◌, ◌∷◌, ◌++◌, length, slice_index_or}
 use Rattle.std.specs.List.{filter, flat_map, list_all}
 use Rattle.catalogue.specs.Entries.{Entry}
 use Rattle.query.specs.declared.pattern.TriplePattern.{TriplePattern}
@@ -23,6 +23,15 @@ pub record ListsAll (m : Meaning) (e : ℕ → Entry) (q : List Group) (admits :
       → times_answered a (answers (walk m e admits q)) ≡ times_answered a (answers_to m e q)
   pub in_order : Ascending (Precedes q) (answers (walk m e admits q))
   pub once : (a : Answer) → times_answered a (answers (walk m e admits q)) ≤ 1
+
+-- the order of a query's answers: none comes before itself; what comes before one that comes before another
+-- comes before that other; and two answers are the same, or one of them comes before the other
+pub record OrderIsTotal (m : Meaning) (e : ℕ → Entry) (q : List Group) : Type 0 where
+  pub never : (a : Answer) → Precedes q a a → ⊥
+  pub onward : (a b c : Answer) → Precedes q a b → Precedes q b c → Precedes q a c
+  pub either : (a b : Answer) → Answered m e (slice_index_or q a.alternative no_group) a.row
+      → Answered m e (slice_index_or q b.alternative no_group) b.row
+      → (a ≡ b) ⊎ (Precedes q a b ⊎ Precedes q b a)
 
 -- whatever lawful admission it asks, the walk lists the query's answers
 abbrev pub WalkListsAnswers : Meaning → (ℕ → Entry) → List Group → Type 0
