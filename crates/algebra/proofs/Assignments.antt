@@ -145,7 +145,7 @@ all-terms top =
 -- assignments
 
 -- a variable that comes before all of vs is not among them
-not-among : (v : ℕ) (vs : List ℕ) → AllByRecursion (λ w. v < w) vs → Among v vs → ⊥
+pub not-among : (v : ℕ) (vs : List ℕ) → AllByRecursion (λ w. v < w) vs → Among v vs → ⊥
 not-among v [] h k = k
 not-among v (w ∷ vs) h k = ⊎_elim (λ e. omega (arith, h.0, e)) (not-among v vs h.1) k
 

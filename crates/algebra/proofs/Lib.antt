@@ -9,4 +9,13 @@ pub mod Parts  -- the walk of one part
 pub mod Walks  -- the walk of a query
 pub mod Pruning  -- every term, and the look-ahead, keep the law
 pub mod LookAhead  -- what the look-ahead asks of a pattern
+pub mod Merging  -- rows compared and merged
+pub mod Joins  -- joins with a basic pattern
+pub mod Counts  -- the algebra counts as the listing
+pub mod Cardinalities  -- how often a row occurs in what the operators make
 pub mod Examples  -- the worked examples hold
+pub mod Ascents  -- lists that ascend
+pub mod Flat  -- rows compared variable by variable
+pub mod Blocks  -- what blocks do to a row
+pub mod Orders  -- the order in which answers come
+pub mod Ordered  -- the listing ascends

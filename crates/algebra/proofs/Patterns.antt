@@ -1,32 +1,41 @@
 -- Laws of triple patterns under rows. Assumes nothing.
-use Rattle.std.proofs.Common.{◌≡◌, ℕ, Bool, true, ◌&&◌, ◌||◌, List, [], ◌∷◌, refl, ap₂}
-use Rattle.std.proofs.lemmas.Bool.{or_left, or_right, eq-eqb}
+use Rattle.std.proofs.Common.{◌≡◌, ℕ, Bool, true, not, ◌&&◌, ◌||◌, List, [], ◌∷◌, refl, ap, ap₂, ◌∙◌, eq-eqb}
+use Rattle.std.proofs.lemmas.Bool.{or_left, or_right}
+use Rattle.std.proofs.Math.Bool.{and-true}
 use Rattle.query.specs.declared.place.Place.{Place}
 use Rattle.query.specs.declared.place.Place.TheVariants.{Variable, Term}
 use Rattle.query.specs.declared.pattern.TriplePattern.{TriplePattern}
 use Rattle.query.specs.Lawful.{is_variable, mentions}
 use Rattle.triples.specs.Meaning.{Meaning}
-use Rattle.filter.specs.Rows.{Row, value, number_at}
-use Rattle.algebra.specs.Patterns.{triple_under, stored}
+use Rattle.filter.specs.Rows.{Row, value, has_value, number_at}
+use Rattle.algebra.specs.Patterns.{blank, triple_under, stored, numbers, open_variables, variables_in}
+use Rattle.algebra.proofs.Lists.{filter-like}
+use Rattle.algebra.proofs.Rows.{value-blank, has_value-none}
 
-number_at-same : (r s : Row) (p : Place) → ((v : ℕ) → is_variable v p ≡ true → value r v ≡ value s v)
+-- number_at
+
+number_at-same : (p : Place) (r s : Row) → ((v : ℕ) → is_variable v p ≡ true → value r v ≡ value s v)
     → number_at r p ≡ number_at s p
-number_at-same r s (Variable w) same = same w (eq-eqb w w refl)
-number_at-same r s (Term t) same = refl
+number_at-same (Variable w) r s same = same w (eq-eqb w w refl)
+number_at-same (Term t) r s same = refl
+
+-- triple_under
 
 -- v is in the triple
-abbrev within_triple : ℕ → TriplePattern → Bool
-within_triple v t = is_variable v t.subject || (is_variable v t.property || is_variable v t.object)
+abbrev pub in_triple : ℕ → TriplePattern → Bool
+in_triple v t = is_variable v t.subject || (is_variable v t.property || is_variable v t.object)
 
-triple_under-same : (r s : Row) (t : TriplePattern)
-    → ((v : ℕ) → within_triple v t ≡ true → value r v ≡ value s v) → triple_under r t ≡ triple_under s t
-triple_under-same r s t same =
-    let a = number_at-same r s t.subject (λ v h. same v (or_left (is_variable v t.subject) _ h)) in
-    let b = number_at-same r s t.property
+pub triple_under-same : (t : TriplePattern) (r s : Row)
+    → ((v : ℕ) → in_triple v t ≡ true → value r v ≡ value s v) → triple_under r t ≡ triple_under s t
+triple_under-same t r s same =
+    let subject = number_at-same t.subject r s (λ v h. same v (or_left (is_variable v t.subject) _ h)) in
+    let property = number_at-same t.property r s
     (λ v h. same v (or_right (is_variable v t.subject) _ (or_left (is_variable v t.property) _ h))) in
-    let c = number_at-same r s t.object
+    let object = number_at-same t.object r s
     (λ v h. same v (or_right (is_variable v t.subject) _ (or_right (is_variable v t.property) _ h))) in
     cc
+
+-- stored
 
 -- rows with the same values for the variables of the patterns have the same triples in the store
 pub stored-same : (m : Meaning) (ts : List TriplePattern) (r s : Row)
@@ -34,5 +43,15 @@ pub stored-same : (m : Meaning) (ts : List TriplePattern) (r s : Row)
 stored-same m [] r s same = refl
 stored-same m (t ∷ ts) r s same =
     ap₂ (λ u b. m.has u && b)
-    (triple_under-same r s t (λ v h. same v (or_left (within_triple v t) (mentions v ts) h)))
-    (stored-same m ts r s (λ v h. same v (or_right (within_triple v t) (mentions v ts) h)))
+    (triple_under-same t r s (λ v h. same v (or_left (in_triple v t) (mentions v ts) h)))
+    (stored-same m ts r s (λ v h. same v (or_right (in_triple v t) (mentions v ts) h)))
+
+-- open_variables
+
+-- the row without values leaves all variables of the patterns open
+pub open_variables-blank : (ts : List TriplePattern) → open_variables ts blank ≡ variables_in ts
+open_variables-blank ts =
+    filter-like (λ v. mentions v ts && not (has_value blank v)) (λ v. mentions v ts)
+    (λ v. ap (λ b. mentions v ts && not b) (has_value-none blank v (value-blank v))
+    ∙ and-true (mentions v ts))
+    numbers

@@ -1,6 +1,6 @@
 -- What this crate proves of every query, store and catalogue. Assumes nothing.
-use Rattle.std.specs.Prelude.{◌≡◌, ℕ, ◌+◌, ◌<◌, ◌≤◌, Bool, true, false, cond, ◌&&◌, List, ◌∷◌, ◌++◌, length}
-use Rattle.std.specs.Prelude.{slice_index_or}
+use Rattle.std.specs.Prelude.{◌≡◌, ℕ, ◌+◌, ◌<◌, ◌≤◌, Bool, true, cond, not, ◌&&◌, ◌||◌, List}
+use Rattle.std.specs.Prelude.{◌⊎◌, ◌∷◌, ◌++◌, length, slice_index_or}
 use Rattle.std.specs.List.{filter, flat_map, list_all}
 use Rattle.catalogue.specs.Entries.{Entry}
 use Rattle.query.specs.declared.pattern.TriplePattern.{TriplePattern}
@@ -24,6 +24,15 @@ pub record ListsAll (m : Meaning) (e : ℕ → Entry) (q : List Group) (admits :
       → times_answered a (answers (walk m e admits q)) ≡ times_answered a (answers_to m e q)
   pub in_order : Ascending (Precedes q) (answers (walk m e admits q))
   pub once : (a : Answer) → times_answered a (answers (walk m e admits q)) ≤ 1
+
+-- the order of a query's answers: none comes before itself; what comes before one that comes before another
+-- comes before that other; and two answers are the same, or one of them comes before the other
+pub record OrderIsTotal (m : Meaning) (e : ℕ → Entry) (q : List Group) : Type 0 where
+  pub never : (a : Answer) → Precedes q a a → ⊥
+  pub onward : (a b c : Answer) → Precedes q a b → Precedes q b c → Precedes q a c
+  pub either : (a b : Answer) → Answered m e (slice_index_or q a.alternative no_group) a.row
+      → Answered m e (slice_index_or q b.alternative no_group) b.row
+      → (a ≡ b) ⊎ (Precedes q a b ⊎ Precedes q b a)
 
 -- whatever lawful admission it asks, the walk lists the query's answers
 abbrev pub WalkListsAnswers : Meaning → (ℕ → Entry) → List Group → Type 0
@@ -88,8 +97,7 @@ pub record Cardinalities (test : Row → Bool) (left right : List Row) (r : Row)
   pub joined : times r (join left right)
       ≡ total (λ s. total (λ t. cond (compatible s t && same_row r (merge s t)) 1 0) right) left
   pub lacking : times r (diff test left right)
-      ≡ cond (list_all (λ s. cond (compatible r s) (cond (test (merge r s)) false true) true) right)
-      (times r left) 0
+      ≡ cond (list_all (λ s. not (compatible r s) || not (test (merge r s))) right) (times r left) 0
   pub left_joined : times r (left_join test left right)
       ≡ times r (filter test (join left right)) + times r (diff test left right)
 
@@ -97,3 +105,21 @@ pub record Cardinalities (test : Row → Bool) (left right : List Row) (r : Row)
 abbrev pub CountedAsDefined : Type 0
 CountedAsDefined = (test : Row → Bool) (left right : List Row) (r : Row)
     → Cardinalities test left right r
+
+-- every row is as often among the one as among the other
+abbrev pub AsOften : List Row → List Row → Type 0
+AsOften rows others = (r : Row) → times r rows ≡ times r others
+
+-- what the operators make of left and right has every row as often as what they make of the others
+pub record MadeAsOften (test : Row → Bool) (left right other_left other_right : List Row) : Type 0 where
+  pub filtered : AsOften (filter test left) (filter test other_left)
+  pub united : AsOften (left ++ right) (other_left ++ other_right)
+  pub joined : AsOften (join left right) (join other_left other_right)
+  pub lacking : AsOften (diff test left right) (diff test other_left other_right)
+  pub left_joined : AsOften (left_join test left right) (left_join test other_left other_right)
+
+-- of the rows that the operators take, only counts matter, and neither their order nor how they came about
+abbrev pub OnlyCountsMatter : Type 0
+OnlyCountsMatter = (test : Row → Bool) (left right other_left other_right : List Row)
+    → AsOften left other_left → AsOften right other_right
+    → MadeAsOften test left right other_left other_right

@@ -1,0 +1,202 @@
+-- The algebra counts every answer as the listing does. Lists of which only counts matter are compared by
+-- their totals, whatever number each row counts with. Assumes nothing.
+use Rattle.std.proofs.Common.{◌≡◌, ℕ, ◌+◌, ◌≤◌, Bool, true, false, cond, not, ◌&&◌, ◌||◌}
+use Rattle.std.proofs.Common.{List, [], ◌∷◌, ◌++◌, map, map-id, refl, sym, ap, ap₂, ◌∙◌, subst, arith, ⊎_elim}
+use Rattle.std.proofs.lemmas.Bool.{cases_Bool, cases_eq, cases_lt}
+use Rattle.std.proofs.lemmas.List.Concat.{flat_map_single}
+use Rattle.std.specs.List.{filter, flat_map, list_all, AllByRecursion}
+use Rattle.catalogue.specs.Entries.{Entry}
+use Rattle.query.specs.declared.pattern.TriplePattern.{TriplePattern}
+use Rattle.query.specs.Parts.{Part, Group}
+use Rattle.query.specs.Lawful.{total}
+use Rattle.triples.specs.Meaning.{Meaning}
+use Rattle.filter.specs.Rows.{Row, value}
+use Rattle.filter.specs.Filters.{passes}
+use Rattle.algebra.specs.Patterns.{blank, with_value, stored, open_variables, terms, assignments, completions}
+use Rattle.algebra.specs.Algebra.{bgp, compatible, merge, join, diff, left_join}
+use Rattle.algebra.specs.Answers.{left_joins, solutions, Answer, numbered, answers_from, answers_to}
+use Rattle.algebra.specs.Answers.{same_answer, times_answered}
+use Rattle.algebra.proofs.Listing.{fitting, or_itself, extended, rows_of, answers_of_from, answers_of}
+use Rattle.algebra.proofs.Lists.{all-append, all-weaker, all-filter, all-flat_map, flat_map-same}
+use Rattle.algebra.proofs.Lists.{flat_map-flat_map, filter-same, filter-flat_map, total-append}
+use Rattle.algebra.proofs.Lists.{total-flat_map, total-map, total-filter, total-like, total-plus}
+use Rattle.algebra.proofs.Rows.{value-with_same, value-with_other, length-with_value, with_value-past}
+use Rattle.algebra.proofs.Rows.{value-blank, length-blank, times_answered-total, all-range}
+use Rattle.algebra.proofs.Joins.{Valid, join-pattern}
+
+-- Valid
+
+valid-blank : (top : ℕ) → Valid top blank
+valid-blank top = record { long = length-blank; small = λ v. omega (arith, value-blank v) }
+
+valid-with_value : (top : ℕ) (r : Row) (v x : ℕ) → Valid top r → x ≤ top → Valid top (with_value r v x)
+valid-with_value top r v x h small = record {
+  long = length-with_value r v x ∙ h.long;
+  small = λ w. ⊎_elim
+      (λ e. ⊎_elim
+      (λ l. let at = ap (value (with_value r v x)) e ∙ value-with_same r v x l in omega (arith, at, small))
+      (λ p. let at = ap (λ t. value t w) (with_value-past r v x p) in omega (arith, at, h.small w))
+      (cases_lt v _))
+      (λ d. let at = value-with_other r v x w d in omega (arith, at, h.small w))
+      (cases_eq w v);
+}
+
+valid-assignments : (top : ℕ) (vs : List ℕ) (r : Row) → Valid top r
+    → AllByRecursion (Valid top) (assignments top vs r)
+valid-assignments top [] r h = (h, tt)
+valid-assignments top (v ∷ vs) r h =
+    all-flat_map (Valid top) (λ x. assignments top vs (with_value r v x)) (terms top)
+    (all-weaker _ _
+    (λ x l. valid-assignments top vs (with_value r v x) (valid-with_value top r v x h (omega (arith, l.1))))
+    (terms top) (all-range 1 top))
+
+valid-filter : (top : ℕ) (test : Row → Bool) (rows : List Row) → AllByRecursion (Valid top) rows
+    → AllByRecursion (Valid top) (filter test rows)
+valid-filter top test rows h = all-filter (Valid top) (Valid top) test (λ _ k _. k) rows h
+
+valid-completions : (m : Meaning) (ts : List TriplePattern) (r : Row) → Valid m.top r
+    → AllByRecursion (Valid m.top) (filter (stored m ts) (completions m.top ts r))
+valid-completions m ts r h =
+    valid-filter m.top (stored m ts) (completions m.top ts r)
+    (valid-assignments m.top (open_variables ts r) r h)
+
+-- left_join
+
+-- nothing is in the list
+abbrev vacant : {A : Type 0} → List A → Bool
+vacant [] = true
+vacant (x ∷ xs) = false
+
+vacant-cond : (t : Bool) (r : Row) (rows : List Row)
+    → (not t && vacant rows) ≡ vacant (cond t (r ∷ rows) rows)
+vacant-cond true r rows = refl
+vacant-cond false r rows = refl
+
+-- a row has no partner whose merge passes the test exactly if no merge passes it
+partners-vacant : (test : Row → Bool) (r : Row) (right : List Row)
+    → list_all (λ s. not (compatible r s) || not (test (merge r s))) right
+    ≡ vacant (filter test (map (merge r) (filter (compatible r) right)))
+partners-vacant test r [] = refl
+partners-vacant test r (s ∷ right) =
+    let later = list_all (λ s. not (compatible r s) || not (test (merge r s))) right in
+    let partners = filter (compatible r) right in
+    let fails = not (test (merge r s)) in
+    ⊎_elim
+    (λ c. ap (λ b. (not b || fails) && later) c
+    ∙ ap (λ b. fails && b) (partners-vacant test r right)
+    ∙ vacant-cond (test (merge r s)) (merge r s) (filter test (map (merge r) partners))
+    ∙ ap (λ b. vacant (filter test (map (merge r) (cond b (s ∷ partners) partners)))) (sym c))
+    (λ f. ap (λ b. (not b || fails) && later) f
+    ∙ partners-vacant test r right
+    ∙ ap (λ b. vacant (filter test (map (merge r) (cond b (s ∷ partners) partners)))) (sym f))
+    (cases_Bool (compatible r s))
+
+-- the rows, and besides them r where there are none
+total-or_itself : (w : Row → ℕ) (r : Row) (rows : List Row)
+    → total w rows + cond (vacant rows) (w r) 0 ≡ total w (or_itself r rows)
+total-or_itself w r [] = omega arith
+total-or_itself w r (s ∷ rows) = omega arith
+
+-- the two parts of a left join, put together row by row
+total-left : (w : Row → ℕ) (fits : Row → List Row) (left : List Row)
+    → total w (flat_map fits left ++ filter (λ r. vacant (fits r)) left)
+    ≡ total w (flat_map (λ r. or_itself r (fits r)) left)
+total-left w fits left =
+    total-append w (flat_map fits left) (filter (λ r. vacant (fits r)) left)
+    ∙ omega (
+      arith,
+      total-flat_map w fits left,
+      total-filter w (λ r. vacant (fits r)) left,
+      total-plus (λ r. total w (fits r)) (λ r. cond (vacant (fits r)) (w r) 0) left,
+    )
+    ∙ total-like _ _ (λ r. total-or_itself w r (fits r)) left
+    ∙ sym (total-flat_map w (λ r. or_itself r (fits r)) left)
+
+module _ (m : Meaning) (test : Row → Bool) (ts : List TriplePattern) (left : List Row)
+    (valid : AllByRecursion (Valid m.top) left) where
+  -- the merges that pass the test are what the rows' completions fit
+  join-fits : filter test (join left (bgp m ts)) ≡ flat_map (fitting m test ts) left
+  join-fits =
+      filter-flat_map test (λ r. map (merge r) (filter (compatible r) (bgp m ts))) left
+      ∙ flat_map-same _ _ left
+      (all-weaker _ _ (λ r h. ap (filter test) (join-pattern m ts r h)) left valid)
+
+  diff-fits : diff test left (bgp m ts) ≡ filter (λ r. vacant (fitting m test ts r)) left
+  diff-fits =
+      filter-same _ _ left
+      (all-weaker _ _ (λ r h. partners-vacant test r (bgp m ts)
+      ∙ ap (λ l. vacant (filter test l)) (join-pattern m ts r h)) left valid)
+
+  left_join-fits : left_join test left (bgp m ts)
+      ≡ flat_map (fitting m test ts) left ++ filter (λ r. vacant (fitting m test ts r)) left
+  left_join-fits = ap₂ (λ xs ys. xs ++ ys) join-fits diff-fits
+
+  -- a left join with a basic pattern counts as each row's fits, or where it has none the row itself
+  total-left_join : (w : Row → ℕ)
+      → total w (left_join test left (bgp m ts))
+      ≡ total w (flat_map (λ r. or_itself r (fitting m test ts r)) left)
+  total-left_join w = ap (total w) left_join-fits ∙ total-left w (fitting m test ts) left
+
+  valid-left_join : AllByRecursion (Valid m.top) (left_join test left (bgp m ts))
+  valid-left_join =
+      subst (AllByRecursion (Valid m.top)) (sym left_join-fits)
+      (all-append (Valid m.top) _ _
+      (all-flat_map (Valid m.top) (fitting m test ts) left
+      (all-weaker _ _ (λ r h. valid-filter m.top test _ (valid-completions m ts r h)) left valid))
+      (valid-filter m.top _ left valid))
+
+-- left_joins, solutions, answers_to
+
+-- the row as an answer of alternative a
+abbrev answer_of : ℕ → Row → Answer
+answer_of a r = record { alternative = a; row = r }
+
+module _ (m : Meaning) (e : ℕ → Entry) where
+  -- left joins with the blocks count as what the blocks make of each row
+  total-left_joins : (bs : List Part) (w : Row → ℕ) (left : List Row) → AllByRecursion (Valid m.top) left
+      → total w (left_joins m e left bs) ≡ total w (flat_map (extended m e bs) left)
+  total-left_joins [] w left valid =
+      ap (total w) (sym (flat_map_single (λ r. r) left ∙ map-id left))
+  total-left_joins (b ∷ bs) w left valid =
+      let test = passes e b.filter in
+      let right = bgp m b.triples in
+      let step = λ (r : Row). or_itself r (fitting m test b.triples r) in
+      let later = λ (r : Row). total w (extended m e bs r) in
+      total-left_joins bs w (left_join test left right) (valid-left_join m test b.triples left valid)
+      ∙ total-flat_map w (extended m e bs) (left_join test left right)
+      ∙ total-left_join m test b.triples left valid later
+      ∙ sym (total-flat_map w (extended m e bs) (flat_map step left))
+      ∙ ap (total w) (flat_map-flat_map (extended m e bs) step left)
+
+  -- the solutions of an alternative count as its rows in the listing
+  pub total-solutions : (g : Group) (w : Row → ℕ) → total w (solutions m e g) ≡ total w (rows_of m e g)
+  total-solutions g w =
+      let test = passes e g.filter in
+      let first = bgp m g.required in
+      total-filter w test (left_joins m e first g.blocks)
+      ∙ total-left_joins g.blocks (λ r. cond (test r) (w r) 0) first
+      (valid-completions m g.required blank (valid-blank m.top))
+      ∙ sym (total-filter w test (flat_map (extended m e g.blocks) first))
+
+  total-answers : (w : Answer → ℕ) (a : ℕ) (q : List Group)
+      → total w (answers_of_from m e a q) ≡ total w (answers_from m e a q)
+  total-answers w a [] = refl
+  total-answers w a (g ∷ gs) =
+      let number = answer_of a in
+      omega (
+        arith,
+        total-append w (numbered a (rows_of m e g)) (answers_of_from m e (a + 1) gs),
+        total-append w (numbered a (solutions m e g)) (answers_from m e (a + 1) gs),
+        total-map w number (rows_of m e g),
+        total-map w number (solutions m e g),
+        total-solutions g (λ r. w (number r)),
+        total-answers w (a + 1) gs,
+      )
+
+  -- every answer is as often in the listing as the algebra counts it
+  pub listing_counts : (q : List Group) (a : Answer)
+      → times_answered a (answers_of m e q) ≡ times_answered a (answers_to m e q)
+  listing_counts q a =
+      times_answered-total a (answers_of m e q)
+      ∙ total-answers (λ b. cond (same_answer a b) 1 0) 0 q
+      ∙ sym (times_answered-total a (answers_to m e q))
