@@ -19,3 +19,5 @@ pub mod Flat  -- rows compared variable by variable
 pub mod Blocks  -- what blocks do to a row
 pub mod Orders  -- the order in which answers come
 pub mod Ordered  -- the listing ascends
+pub mod Members  -- elements of lists
+pub mod Owners  -- to which part a variable belongs

@@ -1,0 +1,118 @@
+-- To which part of an alternative a variable belongs. Assumes nothing.
+use Rattle.std.proofs.Common.{◌≡◌, ℕ, zero, suc, ◌+◌, ◌<◌, ◌≤◌, Bool, true, false, not, ◌&&◌, ◌⊎◌}
+use Rattle.std.proofs.Common.{List, [], ◌∷◌, map, length, get_or, Some}
+use Rattle.std.proofs.Common.{sym, ap, ◌∙◌, subst, inl, inr, ⊎_elim, arith}
+use Rattle.std.proofs.Math.ListN.{length-map, get_or-map}
+use Rattle.std.proofs.lemmas.Bool.{cases_Bool, both_ways, cases_lt, cond-true, cond-false, and_from, or_left}
+use Rattle.std.proofs.lemmas.Bool.{or_right, not_from_false}
+use Rattle.std.proofs.lemmas.List.Folds.{list_any_at}
+use Rattle.std.specs.List.{list_any}
+use Rattle.query.specs.declared.pattern.TriplePattern.{TriplePattern}
+use Rattle.query.specs.Lawful.{in_two, mentions, shares}
+use Rattle.query.specs.Parts.{Part, Group}
+use Rattle.query.proofs.Lawful.{shares_decides}
+use Rattle.algebra.specs.Order.{part_from, part_of, parts_of}
+use Rattle.algebra.specs.Words.{no_part}
+
+-- part_from
+
+-- the part is one of them, and its triples hold the variable
+pub part_from_holds : (v p : ℕ) (parts : List (List TriplePattern)) (k : ℕ) → part_from v p parts ≡ Some k
+    → (i : ℕ) × (k ≡ p + i) × (i < length parts) × (mentions v (get_or parts i []) ≡ true)
+part_from_holds v p [] k h = cc
+part_from_holds v p (ts ∷ parts) k h =
+    ⊎_elim
+    (λ t. let e : Some p ≡ Some k = sym (cond-true (mentions v ts) (Some p) (part_from v (p + 1) parts) t) ∙ h in
+    let at : p ≡ k = cc in
+    (0, omega arith, omega arith, t))
+    (λ f. let e = sym (cond-false (mentions v ts) (Some p) (part_from v (p + 1) parts) f) ∙ h in
+    let (i, at, low, t) = part_from_holds v (p + 1) parts k e in
+    (suc i, omega arith, omega arith, t))
+    (cases_Bool (mentions v ts))
+
+-- a variable in a part's triples belongs to that part or to one before it
+pub part_from_first : (v p : ℕ) (parts : List (List TriplePattern)) (i : ℕ) → i < length parts
+    → mentions v (get_or parts i []) ≡ true → (k : ℕ) × (part_from v p parts ≡ Some k) × (k ≤ p + i)
+part_from_first v p [] i low t = absurd (omega arith)
+part_from_first v p (ts ∷ parts) zero low t =
+    (p, cond-true (mentions v ts) (Some p) (part_from v (p + 1) parts) t, omega arith)
+part_from_first v p (ts ∷ parts) (suc i) low t =
+    ⊎_elim
+    (λ w. (p, cond-true (mentions v ts) (Some p) (part_from v (p + 1) parts) w, omega arith))
+    (λ w. let (k, e, high) = part_from_first v (p + 1) parts i (omega arith) t in
+    (k, cond-false (mentions v ts) (Some p) (part_from v (p + 1) parts) w ∙ e, omega arith))
+    (cases_Bool (mentions v ts))
+
+-- in_two
+
+pub in_two_from : {A : Type 0} (p : A → Bool) (xs : List A) (i j : ℕ) (d : A) → i < j → j < length xs
+    → p (get_or xs i d) ≡ true → p (get_or xs j d) ≡ true → in_two p xs ≡ true
+in_two_from p [] i j d low high t w = absurd (omega arith)
+in_two_from p (x ∷ xs) i zero d low high t w = absurd (omega arith)
+in_two_from p (x ∷ xs) zero (suc j) d low high t w =
+    or_left (p x && list_any p xs) (in_two p xs)
+    (and_from (p x) (list_any p xs) t (list_any_at p xs j d (omega arith) w))
+in_two_from p (x ∷ xs) (suc i) (suc j) d low high t w =
+    or_right (p x && list_any p xs) (in_two p xs) (in_two_from p xs i j d (omega arith) (omega arith) t w)
+
+-- part_of
+
+-- the block number i of the alternative
+abbrev pub block_at : Group → ℕ → Part
+block_at g i = get_or g.blocks i no_part
+
+-- what belongs to part 0 is in the required triples
+pub required_holds : (g : Group) (v : ℕ) → part_of g v ≡ Some 0 → mentions v g.required ≡ true
+required_holds g v h =
+    let (i, at, low, t) = part_from_holds v 0 (parts_of g) 0 h in
+    let first : i ≡ 0 = omega arith in
+    subst (λ k. mentions v (get_or (parts_of g) k []) ≡ true) first t
+
+pub required_owns : (g : Group) (v : ℕ) → mentions v g.required ≡ true → part_of g v ≡ Some 0
+required_owns g v t =
+    cond-true (mentions v g.required) (Some 0) (part_from v 1 (map (λ b. b.triples) g.blocks)) t
+
+-- what belongs to part i + 1 is in the triples of block i, and not in the required triples
+pub block_holds : (g : Group) (i v : ℕ) → part_of g v ≡ Some (i + 1)
+    → (i < length g.blocks) × (mentions v (block_at g i).triples ≡ true) × (mentions v g.required ≡ false)
+block_holds g i v h =
+    ⊎_elim
+    (λ t. let e : Some (i + 1) ≡ Some 0 = sym h ∙ required_owns g v t in
+    let never : i + 1 ≡ 0 = cc in absurd (omega arith))
+    (λ f. let rest = sym (cond-false (mentions v g.required) (Some 0)
+    (part_from v 1 (map (λ b. b.triples) g.blocks)) f) ∙ h in
+    let (k, at, low, t) = part_from_holds v 1 (map (λ b. b.triples) g.blocks) (i + 1) rest in
+    let here : k ≡ i = omega arith in (
+      omega (arith, length-map g.blocks (λ (b : Part). b.triples)),
+      subst (λ ts. mentions v ts ≡ true) (get_or-map (λ (b : Part). b.triples) g.blocks i no_part)
+          (subst (λ j. mentions v (get_or (map (λ b. b.triples) g.blocks) j []) ≡ true) here t),
+      f,
+    ))
+    (cases_Bool (mentions v g.required))
+
+-- a variable in the triples of block i belongs to that block, or to the required triples: it is in two blocks
+-- only if it is in those
+pub block_owns : (g : Group) → shares g ≡ false → (i v : ℕ) → v < 16 → i < length g.blocks
+    → mentions v (block_at g i).triples ≡ true → (part_of g v ≡ Some 0) ⊎ (part_of g v ≡ Some (i + 1))
+block_owns g apart i v small low t =
+    let there = subst (λ ts. mentions v ts ≡ true)
+    (sym (get_or-map (λ (b : Part). b.triples) g.blocks i no_part)) t in
+    let (k, own, first) = part_from_first v 0 (parts_of g) (suc i)
+    (omega (arith, length-map g.blocks (λ (b : Part). b.triples))) there in
+    owner k own first
+  where
+    owner : (k : ℕ) → part_of g v ≡ Some k → k ≤ 0 + suc i
+        → (part_of g v ≡ Some 0) ⊎ (part_of g v ≡ Some (i + 1))
+    owner zero own first = inl own
+    owner (suc j) own first =
+        let (high, held, lacks) = block_holds g j v (own ∙ ap Some (omega arith)) in
+        ⊎_elim
+        (λ before. absurd (both_ways (shares g) apart ((shares_decides g).1 (
+          v,
+          small,
+          and_from (in_two (λ b. mentions v b.triples) g.blocks) (not (mentions v g.required))
+              (in_two_from (λ b. mentions v b.triples) g.blocks j i no_part before low held t)
+              (not_from_false (mentions v g.required) lacks),
+        ))))
+        (λ same. inr (own ∙ ap Some (omega arith)))
+        (cases_lt j i)
