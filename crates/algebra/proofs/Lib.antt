@@ -21,3 +21,4 @@ pub mod Orders  -- the order in which answers come
 pub mod Ordered  -- the listing ascends
 pub mod Members  -- elements of lists
 pub mod Owners  -- to which part a variable belongs
+pub mod Phrases  -- laws of what the words on an answer name

@@ -9,6 +9,7 @@ use Rattle.std.proofs.lemmas.Slice.Eq.{bytes_eq-Decides}
 use Rattle.std.specs.List.{filter, flat_map, AllByRecursion}
 use Rattle.filter.specs.Rows.{Row}
 use Rattle.algebra.specs.Answers.{same_row, times}
+use Rattle.algebra.proofs.Lists.{filter-yes, filter-no}
 
 -- x is an element of the list
 abbrev pub Member : {A : Type 0} → A → List A → Type 0
@@ -42,14 +43,10 @@ module _ {A : Type 0} (p : A → Bool) (x : A) where
   pub member_filter : (xs : List A) → p x ≡ true → Member x xs → Member x (filter p xs)
   member_filter [] t h = h
   member_filter (y ∷ ys) t h =
-      ⊎_elim
-      (λ e. subst (λ zs. Member x zs) (sym (cond-true (p y) (y ∷ filter p ys) (filter p ys) (ap p (sym e) ∙ t)))
-      (inl e))
+      ⊎_elim (λ e. subst (Member x) (sym (filter-yes p y ys (ap p (sym e) ∙ t))) (inl e))
       (λ i. ⊎_elim
-      (λ w. subst (λ zs. Member x zs) (sym (cond-true (p y) (y ∷ filter p ys) (filter p ys) w))
-      (inr (member_filter ys t i)))
-      (λ w. subst (λ zs. Member x zs) (sym (cond-false (p y) (y ∷ filter p ys) (filter p ys) w))
-      (member_filter ys t i))
+      (λ w. subst (Member x) (sym (filter-yes p y ys w)) (inr (member_filter ys t i)))
+      (λ w. subst (Member x) (sym (filter-no p y ys w)) (member_filter ys t i))
       (cases_Bool (p y)))
       h
 
@@ -59,9 +56,8 @@ module _ {A : Type 0} (p : A → Bool) (x : A) where
       ⊎_elim
       (λ w. ⊎_elim (λ e. (inl e, ap p e ∙ w))
       (λ i. let k = member_filter_back ys i in (inr k.0, k.1))
-      (subst (λ zs. Member x zs) (cond-true (p y) (y ∷ filter p ys) (filter p ys) w) h))
-      (λ w. let k = member_filter_back ys
-      (subst (λ zs. Member x zs) (cond-false (p y) (y ∷ filter p ys) (filter p ys) w) h) in (inr k.0, k.1))
+      (subst (Member x) (filter-yes p y ys w) h))
+      (λ w. let k = member_filter_back ys (subst (Member x) (filter-no p y ys w) h) in (inr k.0, k.1))
       (cases_Bool (p y))
 
 -- flat_map

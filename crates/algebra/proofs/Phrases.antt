@@ -1,0 +1,98 @@
+-- Laws of what the words on an answer name: the variables reached, and a row with the values of the first
+-- parts alone. Assumes nothing.
+use Rattle.std.proofs.Common.{◌≡◌, ℕ, ◌+◌, ◌<◌, ◌≤◌, true, false, cond, ◌||◌, ◌⊎◌, List, [], ◌∷◌}
+use Rattle.std.proofs.Common.{length, Some, None, Option, sym, ap, ◌∙◌, subst, inl, inr, ⊎_elim, arith}
+use Rattle.std.proofs.lemmas.Bool.{cases_Bool, cases_lt, cond-true, cond-false, and_parts, or_cases}
+use Rattle.std.proofs.lemmas.Bool.{leb-true, le-leb, eqb-true}
+use Rattle.std.proofs.lemmas.List.{get_or_past, ext_get_or}
+use Rattle.std.proofs.lemmas.List.FromFn.{get_or-map-range_with_len, length-map-range_with_len}
+use Rattle.query.specs.declared.pattern.TriplePattern.{TriplePattern}
+use Rattle.query.specs.declared.place.Place.{Place}
+use Rattle.query.specs.declared.place.Place.TheVariants as places
+use Rattle.query.specs.Lawful.{is_variable, mentions}
+use Rattle.query.specs.Limits.{variables}
+use Rattle.query.specs.Parts.{Group}
+use Rattle.triples.specs.Meaning.{Meaning, Term, Sound}
+use Rattle.filter.specs.Rows.{Row, none, value, number_at}
+use Rattle.algebra.specs.Patterns.{stored, triple_under}
+use Rattle.algebra.specs.Order.{part_of}
+use Rattle.algebra.specs.Words.{reached, upto}
+
+-- stored
+
+variable_number : (top : ℕ) (r : Row) (v : ℕ) (p : Place) → is_variable v p ≡ true → Term top (number_at r p)
+    → Term top (value r v)
+variable_number top r v (places.Variable w) h t = subst (λ x. Term top (value r x)) (sym (eqb-true v w h)) t
+variable_number top r v (places.Term x) h t = cc
+
+-- a variable of triples that are in the store has a term
+pub stored_terms : (m : Meaning) → Sound m → (ts : List TriplePattern) (r : Row) (v : ℕ) → stored m ts r ≡ true
+    → mentions v ts ≡ true → Term m.top (value r v)
+stored_terms m sound [] r v held there = cc
+stored_terms m sound (t ∷ ts) r v held there =
+    let (first, rest) = and_parts (m.has (triple_under r t)) (stored m ts r) held in
+    let terms = sound.terms (triple_under r t) first in
+    ⊎_elim
+    (λ here. ⊎_elim (λ s. variable_number m.top r v t.subject s terms.subject)
+    (λ others. ⊎_elim (λ p. variable_number m.top r v t.property p terms.property)
+    (λ o. variable_number m.top r v t.object o terms.object)
+    (or_cases (is_variable v t.property) (is_variable v t.object) others))
+    (or_cases (is_variable v t.subject) (is_variable v t.property || is_variable v t.object) here))
+    (stored_terms m sound ts r v rest)
+    (or_cases (is_variable v t.subject || (is_variable v t.property || is_variable v t.object)) (mentions v ts)
+    there)
+
+-- reached
+
+pub reached_part : (p k : ℕ) (o : Option ℕ) → o ≡ Some k → k ≤ p → reached p o ≡ true
+reached_part p k o e low = ap (reached p) e ∙ le-leb k p low
+
+pub reached_back : (p k : ℕ) (o : Option ℕ) → o ≡ Some k → reached p o ≡ true → k ≤ p
+reached_back p k o e h = leb-true k p (sym (ap (reached p) e) ∙ h)
+
+pub reached_more : (p : ℕ) (o : Option ℕ) → reached p o ≡ true → reached (p + 1) o ≡ true
+reached_more p None h = h
+reached_more p (Some k) h = let low = leb-true k p h in le-leb k (p + 1) (omega arith)
+
+-- what is reached by one part more is reached before, or belongs to that part
+pub reached_next : (p : ℕ) (o : Option ℕ) → reached (p + 1) o ≡ true → (reached p o ≡ true) ⊎ (o ≡ Some (p + 1))
+reached_next p None h = inl h
+reached_next p (Some k) h =
+    let low = leb-true k (p + 1) h in
+    ⊎_elim (λ l. inl (le-leb k p (omega arith))) (λ l. inr (ap Some (omega arith))) (cases_lt k (p + 1))
+
+-- upto
+
+module _ (g : Group) (p : ℕ) (r : Row) where
+  pub length-upto : length (upto g p r) ≡ variables
+  length-upto = length-map-range_with_len (λ v. cond (reached p (part_of g v)) (value r v) none) 0 variables
+
+  upto_at : (v : ℕ) → v < variables
+      → value (upto g p r) v ≡ cond (reached p (part_of g v)) (value r v) none
+  upto_at v low =
+      get_or-map-range_with_len (λ w. cond (reached p (part_of g w)) (value r w) none) 0 variables v v none low
+      (omega arith)
+
+  upto_past : (v : ℕ) → variables ≤ v → value (upto g p r) v ≡ none
+  upto_past v high = get_or_past (upto g p r) v none (subst (λ n. n ≤ v) (sym length-upto) high)
+
+  pub upto_kept : (v : ℕ) → length r ≡ variables → reached p (part_of g v) ≡ true
+      → value (upto g p r) v ≡ value r v
+  upto_kept v long h =
+      ⊎_elim (λ low. upto_at v low ∙ cond-true (reached p (part_of g v)) (value r v) none h)
+      (λ high. upto_past v high ∙ sym (get_or_past r v none (subst (λ n. n ≤ v) (sym long) high)))
+      (cases_lt v variables)
+
+  pub upto_dropped : (v : ℕ) → reached p (part_of g v) ≡ false → value (upto g p r) v ≡ none
+  upto_dropped v h =
+      ⊎_elim (λ low. upto_at v low ∙ cond-false (reached p (part_of g v)) (value r v) none h) (upto_past v)
+      (cases_lt v variables)
+
+  -- it is the row of that length that has r's values where they are reached, and none elsewhere
+  pub upto_is : (s : Row) → length r ≡ variables → length s ≡ variables
+      → ((v : ℕ) → reached p (part_of g v) ≡ true → value r v ≡ value s v)
+      → ((v : ℕ) → reached p (part_of g v) ≡ false → value s v ≡ none) → upto g p r ≡ s
+  upto_is s long too same later =
+      ext_get_or none (upto g p r) s (length-upto ∙ sym too)
+      (λ v _. ⊎_elim (λ t. upto_kept v long t ∙ same v t) (λ f. upto_dropped v f ∙ sym (later v f))
+      (cases_Bool (reached p (part_of g v))))
