@@ -22,3 +22,4 @@ pub mod Ordered  -- the listing ascends
 pub mod Members  -- elements of lists
 pub mod Owners  -- to which part a variable belongs
 pub mod Phrases  -- laws of what the words on an answer name
+pub mod InWords  -- the listing in words

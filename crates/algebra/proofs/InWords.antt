@@ -1,0 +1,108 @@
+-- The rows that the walk answers are those that the words on an answer say. Assumes nothing.
+--     Filled top ts r s     s gives each variable of ts to which r gives none a term, and is like r elsewhere
+--     Worked g k s          a row that may be in work when the first k blocks are done
+--     Onward m e g k s r    r is what the words say of it from block k on, and s is what it was before that
+use Rattle.std.proofs.Common.{◌≡◌, ℕ, ◌+◌, ◌<◌, ◌≤◌, true, false, ◌⊎◌, ◌≢◌, List}
+use Rattle.std.proofs.Common.{length, Some, None, Option, sym, ap, ◌∙◌, subst, inl, inr}
+use Rattle.std.proofs.Common.{⊎_elim, arith}
+use Rattle.std.proofs.lemmas.Bool.{cases_Bool, both_ways, cases_lt, cases_eq}
+use Rattle.std.proofs.lemmas.List.{get_or_past}
+use Rattle.query.specs.declared.pattern.TriplePattern.{TriplePattern}
+use Rattle.query.specs.Lawful.{mentions, shares}
+use Rattle.query.specs.Limits.{variables}
+use Rattle.query.specs.Parts.{Group}
+use Rattle.triples.specs.Meaning.{Term}
+use Rattle.filter.specs.Rows.{Row, none, value}
+use Rattle.algebra.specs.Order.{part_of}
+use Rattle.algebra.specs.Words.{reached, upto}
+use Rattle.algebra.proofs.Owners.{block_at, block_holds, block_owns}
+use Rattle.algebra.proofs.Phrases.{reached_part, reached_more, reached_above}
+use Rattle.algebra.proofs.Phrases.{upto_kept, upto_is}
+
+-- rows in work
+
+-- s gives each variable of the patterns to which r gives none a term, and is like r elsewhere
+pub record Filled (top : ℕ) (ts : List TriplePattern) (r s : Row) : Type 0 where
+  pub long : length s ≡ length r
+  pub given : (v : ℕ) → v < variables → mentions v ts ≡ true → value r v ≡ none → Term top (value s v)
+  pub kept : (v : ℕ) → (v < variables → mentions v ts ≡ true → value r v ≡ none → ⊥) → value s v ≡ value r v
+
+-- the variables of the required triples have values, those that belong to parts after k have none
+pub record Worked (g : Group) (k : ℕ) (s : Row) : Type 0 where
+  pub long : length s ≡ variables
+  pub later : (v : ℕ) → reached k (part_of g v) ≡ false → value s v ≡ none
+  pub required : (v : ℕ) → part_of g v ≡ Some 0 → value s v ≢ none
+
+-- a variable belongs to the part, or it does not
+cases_part : (o : Option ℕ) (k : ℕ) → (o ≡ Some k) ⊎ (o ≡ Some k → ⊥)
+cases_part None k = inr (λ e. cc)
+cases_part (Some j) k =
+    ⊎_elim (λ e. inl (ap Some e)) (λ n. inr (λ e. let same : j ≡ k = cc in n same)) (cases_eq j k)
+
+-- two parts of one variable are the same
+one_part : (o : Option ℕ) (j k : ℕ) → o ≡ Some j → o ≡ Some k → j ≡ k
+one_part o j k e f = cc
+
+-- a term is not none
+term_some : (top x : ℕ) → Term top x → x ≡ none → ⊥
+term_some top x t e = omega arith
+
+module _ (g : Group) (k : ℕ) (s : Row) (w : Worked g k s) where
+  -- a variable of the next block has no value
+  pub own_free : (v : ℕ) → part_of g v ≡ Some (k + 1) → value s v ≡ none
+  own_free v own = w.later v (reached_above k (k + 1) (part_of g v) own (omega arith))
+
+  -- a row that differs from s at most at the next block's own variables may be in work behind that block
+  pub worked_next : (t : Row) → length t ≡ variables
+      → ((v : ℕ) → (part_of g v ≡ Some (k + 1) → ⊥) → value t v ≡ value s v) → Worked g (k + 1) t
+  worked_next t long kept =
+      record {
+        long = long;
+        later = λ v far. kept v (λ own. both_ways (reached (k + 1) (part_of g v)) far
+            (reached_part (k + 1) (k + 1) (part_of g v) own (omega arith)))
+            ∙ w.later v (⊎_elim (λ t. absurd (both_ways (reached (k + 1) (part_of g v)) far
+            (reached_more k (part_of g v) t))) (λ f. f) (cases_Bool (reached k (part_of g v))));
+        required = λ v first e. w.required v first (sym (kept v (λ own.
+            let never = one_part (part_of g v) 0 (k + 1) first own in omega arith)) ∙ e);
+      }
+
+  -- and if it is what r is up to that block, then s is what r is up to the block before
+  pub upto_before : (r t : Row) → length r ≡ variables
+      → ((v : ℕ) → (part_of g v ≡ Some (k + 1) → ⊥) → value t v ≡ value s v) → upto g (k + 1) r ≡ t
+      → upto g k r ≡ s
+  upto_before r t long kept e =
+      upto_is g k r s long w.long
+      (λ v h. sym (upto_kept g (k + 1) r v long (reached_more k (part_of g v) h))
+      ∙ ap (λ u. value u v) e
+      ∙ kept v (λ own. both_ways (reached k (part_of g v))
+      (reached_above k (k + 1) (part_of g v) own (omega arith)) h))
+      w.later
+
+  module _ (apart : shares g ≡ false) (low : k < length g.blocks) where
+    -- what the next block's triples leave open in s are its own variables
+    open_own : (v : ℕ) → v < variables → mentions v (block_at g k).triples ≡ true → value s v ≡ none
+        → part_of g v ≡ Some (k + 1)
+    open_own v small there free =
+        ⊎_elim (λ first. absurd (w.required v first free)) (λ own. own)
+        (block_owns g apart k v small low there)
+
+    pub filled_kept : (top : ℕ) (t : Row) → Filled top (block_at g k).triples s t → (v : ℕ)
+        → (part_of g v ≡ Some (k + 1) → ⊥) → value t v ≡ value s v
+    filled_kept top t f v other = f.kept v (λ small there free. other (open_own v small there free))
+
+    pub filled_from : (top : ℕ) (t : Row) → length t ≡ variables
+        → ((v : ℕ) → part_of g v ≡ Some (k + 1) → Term top (value t v))
+        → ((v : ℕ) → (part_of g v ≡ Some (k + 1) → ⊥) → value t v ≡ value s v)
+        → Filled top (block_at g k).triples s t
+    filled_from top t long own others =
+        record {
+          long = long ∙ sym w.long;
+          given = λ v small there free. own v (open_own v small there free);
+          kept = λ v shut. ⊎_elim
+              (λ mine. ⊎_elim
+              (λ small. absurd (shut small ((block_holds g k v mine).1) (own_free v mine)))
+              (λ high. absurd (term_some top (value t v) (own v mine)
+              (get_or_past t v none (subst (λ n. n ≤ v) (sym long) high))))
+              (cases_lt v variables))
+              (others v) (cases_part (part_of g v) (k + 1));
+        }
