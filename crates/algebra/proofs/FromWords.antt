@@ -1,11 +1,10 @@
 -- A row that is an answer in words is listed. Assumes nothing.
-use Rattle.std.proofs.Common.{◌≡◌, ℕ, zero, suc, ◌+◌, ◌<◌, ◌≤◌, false}
+use Rattle.std.proofs.Common.{◌≡◌, ℕ, zero, suc, ◌+◌, ◌<◌, false}
 use Rattle.std.proofs.Common.{length, drop, Some, None, Option, refl, sym, ap, ◌∙◌, subst, inl}
 use Rattle.std.proofs.Common.{⊎_elim, arith}
 use Rattle.std.proofs.Math.ListN.{drop_of_length-le}
 use Rattle.std.proofs.lemmas.Bool.{cases_Bool, both_ways, cases_lt}
-use Rattle.std.proofs.lemmas.List.{get_or_past}
-use Rattle.std.specs.List.{filter, flat_map}
+use Rattle.std.specs.List.{flat_map}
 use Rattle.catalogue.specs.Entries.{Entry}
 use Rattle.query.specs.Lawful.{shares}
 use Rattle.query.specs.Limits.{variables}
@@ -13,21 +12,25 @@ use Rattle.query.specs.Parts.{Group}
 use Rattle.triples.specs.Meaning.{Meaning, Term, Sound}
 use Rattle.filter.specs.Rows.{Row, none, value}
 use Rattle.filter.specs.Filters.{passes}
-use Rattle.algebra.specs.Patterns.{blank, stored, completions}
+use Rattle.algebra.specs.Patterns.{blank}
+use Rattle.algebra.specs.Algebra.{bgp}
 use Rattle.algebra.specs.Answers.{times}
 use Rattle.algebra.specs.Order.{part_of}
 use Rattle.algebra.specs.Words.{reached, upto, Left, Answered, no_part}
-use Rattle.algebra.proofs.Listing.{fitting, or_itself, extended, rows_of}
+use Rattle.algebra.proofs.Listing.{or_itself, extended, rows_of}
 use Rattle.algebra.proofs.Assignments.{among-open, among-open_back}
-use Rattle.algebra.proofs.Members.{Member, member_filter}
-use Rattle.algebra.proofs.Members.{member_flat_map, times_member}
-use Rattle.algebra.proofs.Owners.{block_at, block_holds, required_owns, required_holds}
 use Rattle.algebra.proofs.Rows.{length-blank, value-blank}
+use Rattle.algebra.proofs.Members.{Member, member_filter, member_flat_map}
+use Rattle.algebra.proofs.Members.{times_member, members_none}
+use Rattle.algebra.proofs.Members.{or_itself_fits, or_itself_none, drop_next}
+use Rattle.algebra.proofs.Owners.{block_at, block_holds, required_owns, required_holds}
 use Rattle.algebra.proofs.Phrases.{stored_terms, stored_same, reached_part, reached_more, reached_above}
-use Rattle.algebra.proofs.Phrases.{reached_next, length-upto, upto_kept, upto_dropped, upto_is}
-use Rattle.algebra.proofs.Work.{Filled, Worked, Asked, cases_part, term_some, filled_kept}
-use Rattle.algebra.proofs.Work.{filled_from, filled_completion, fitting_filled, filled_fitting}
-use Rattle.algebra.proofs.Work.{members_none, or_itself_fits, or_itself_none, drop_next}
+use Rattle.algebra.proofs.Phrases.{reached_next, reached_next-no, reached_less-no, reached_first-no}
+use Rattle.algebra.proofs.Phrases.{length-upto, upto_kept, upto_part, upto_dropped, upto_is, upto_past}
+use Rattle.algebra.proofs.Fillings.{Filled, fitting_filled}
+use Rattle.algebra.proofs.Fillings.{filled_fitting, filled_bgp}
+use Rattle.algebra.proofs.Work.{Worked, Asked, made_by, cases_part, term_some}
+use Rattle.algebra.proofs.Work.{filled_kept, filled_from}
 
 module _ (m : Meaning) (e : ℕ → Entry) (g : Group) (r : Row) (a : Answered m e g r) where
   -- with the values of all blocks it is the row itself
@@ -42,23 +45,19 @@ module _ (m : Meaning) (e : ℕ → Entry) (g : Group) (r : Row) (a : Answered m
       none_far v (Some (suc i)) at far =
           let next : suc i ≡ i + 1 = omega arith in
           let low = (block_holds g i v (at ∙ ap Some next)).0 in
-          absurd (both_ways (reached k (part_of g v)) far (reached_part k (suc i) (part_of g v) at (omega arith)))
+          absurd (both_ways (reached k (part_of g v)) far
+          (reached_part k (suc i) (part_of g v) at (omega arith)))
 
   -- up to the next block it differs at most at that block's own variables
-  upto_others : (k v : ℕ) → (part_of g v ≡ Some (k + 1) → ⊥) → value (upto g (k + 1) r) v ≡ value (upto g k r) v
+  upto_others : (k v : ℕ) → (part_of g v ≡ Some (k + 1) → ⊥)
+      → value (upto g (k + 1) r) v ≡ value (upto g k r) v
   upto_others k v other =
       ⊎_elim
-      (λ t. upto_kept g (k + 1) r v a.long (reached_more k (part_of g v) t) ∙ sym (upto_kept g k r v a.long t))
-      (λ f. upto_dropped g (k + 1) r v (not_reached k v other f) ∙ sym (upto_dropped g k r v f))
+      (λ t. upto_kept g (k + 1) r v a.long (reached_more k (part_of g v) t)
+      ∙ sym (upto_kept g k r v a.long t))
+      (λ f. upto_dropped g (k + 1) r v (reached_next-no k (part_of g v) f other)
+      ∙ sym (upto_dropped g k r v f))
       (cases_Bool (reached k (part_of g v)))
-    where
-      not_reached : (k v : ℕ) → (part_of g v ≡ Some (k + 1) → ⊥) → reached k (part_of g v) ≡ false
-          → reached (k + 1) (part_of g v) ≡ false
-      not_reached k v other f =
-          ⊎_elim
-          (λ t. ⊎_elim (λ before. absurd (both_ways (reached k (part_of g v)) f before)) (λ own. absurd (other own))
-          (reached_next k (part_of g v) t))
-          (λ n. n) (cases_Bool (reached (k + 1) (part_of g v)))
 
   -- up to a block that it passed by, it is what it was before
   upto_left : (k : ℕ) → Left m e g (k + 1) (block_at g k) r → upto g (k + 1) r ≡ upto g k r
@@ -68,9 +67,7 @@ module _ (m : Meaning) (e : ℕ → Entry) (g : Group) (r : Row) (a : Answered m
       (λ own. left.valueless v own
       ∙ sym (upto_dropped g k r v (reached_above k (k + 1) (part_of g v) own (omega arith))))
       (reached_next k (part_of g v) h))
-      (λ v far. ⊎_elim
-      (λ t. absurd (both_ways (reached (k + 1) (part_of g v)) far (reached_more k (part_of g v) t)))
-      (upto_dropped g k r v) (cases_Bool (reached k (part_of g v))))
+      (λ v far. upto_dropped g k r v (reached_less-no k (part_of g v) far))
 
   module _ (sound : Sound m) (apart : shares g ≡ false) where
     worked_upto : (k : ℕ) → Worked g k (upto g k r)
@@ -80,30 +77,31 @@ module _ (m : Meaning) (e : ℕ → Entry) (g : Group) (r : Row) (a : Answered m
           later = upto_dropped g k r;
           required = λ v first none_there. term_some m.top (value r v)
               (stored_terms m sound g.required r v a.required (required_holds g v first))
-              (sym (upto_kept g k r v a.long (reached_part k 0 (part_of g v) first (omega arith))) ∙ none_there);
+              (sym (upto_part g k r v 0 a.long first (omega arith)) ∙ none_there);
         }
 
     -- a block that fits makes its row of the one before, a block that does not leaves it
     listed_step : (k : ℕ) → k < length g.blocks → Asked m e g r k
         → Member (upto g (k + 1) r)
-        (or_itself (upto g k r) (fitting m (passes e (block_at g k).filter) (block_at g k).triples (upto g k r)))
+        (or_itself (upto g k r) (made_by m e g k (upto g k r)))
     listed_step k low asked =
         let s = upto g k r in
         let t = upto g (k + 1) r in
         let w = worked_upto k in
-        let rows = fitting m (passes e (block_at g k).filter) (block_at g k).triples s in
+        let rows = made_by m e g k s in
         ⊎_elim
         (λ extended. or_itself_fits s t rows
         (filled_fitting m e (block_at g k) s t w.long
         (filled_from g k s w apart low m.top t (length-upto g (k + 1) r)
-        (λ v own. subst (Term m.top) (sym (upto_kept g (k + 1) r v a.long
-        (reached_part (k + 1) (k + 1) (part_of g v) own (omega arith)))) (extended.values v own))
+        (λ v own. subst (Term m.top) (sym (upto_part g (k + 1) r v (k + 1) a.long own (omega arith)))
+        (extended.values v own))
         (upto_others k)) extended.fits))
         (λ left. or_itself_none s t rows (upto_left k left) (members_none rows (λ u h.
         let (f, fits) = fitting_filled m e (block_at g k) s u w.long h in
         left.nothing u (record {
           long = f.long ∙ w.long;
-          own = λ v own. stored_terms m sound (block_at g k).triples u v fits.triples ((block_holds g k v own).1);
+          own = λ v own. stored_terms m sound (block_at g k).triples u v fits.triples
+              ((block_holds g k v own).1);
           others = λ v other. filled_kept g k s w apart low m.top u f v other ∙ sym (upto_others k v other);
         }) fits)))
         asked
@@ -113,13 +111,14 @@ module _ (m : Meaning) (e : ℕ → Entry) (g : Group) (r : Row) (a : Answered m
         → Member r (extended m e (drop k g.blocks) (upto g k r))
     listed_onward zero k all =
         let done = drop_of_length-le g.blocks {i = k} (omega arith) in
-        subst (λ bs. Member r (extended m e bs (upto g k r))) (sym done) (inl (sym (upto_all k (omega arith))))
+        subst (λ bs. Member r (extended m e bs (upto g k r))) (sym done)
+        (inl (sym (upto_all k (omega arith))))
     listed_onward (suc n) k all =
         let low : k < length g.blocks = omega arith in
         let all_next : (k + 1) + n ≡ length g.blocks = omega arith in
         subst (λ bs. Member r (extended m e bs (upto g k r))) (sym (drop_next g.blocks k no_part low))
         (member_flat_map (extended m e (drop (k + 1) g.blocks)) r (upto g (k + 1) r)
-        (or_itself (upto g k r) (fitting m (passes e (block_at g k).filter) (block_at g k).triples (upto g k r)))
+        (or_itself (upto g k r) (made_by m e g k (upto g k r)))
         (listed_step k low (a.blocks k low)) (listed_onward n (k + 1) all_next))
 
     -- its required triples alone
@@ -128,33 +127,25 @@ module _ (m : Meaning) (e : ℕ → Entry) (g : Group) (r : Row) (a : Answered m
         record {
           long = length-upto g 0 r ∙ sym length-blank;
           given = λ v h. let o = among-open_back g.required blank v h in
-              subst (Term m.top) (sym (upto_kept g 0 r v a.long
-              (reached_part 0 0 (part_of g v) (required_owns g v o.held) (omega arith))))
+              subst (Term m.top) (sym (upto_part g 0 r v 0 a.long (required_owns g v o.held) (omega arith)))
               (stored_terms m sound g.required r v a.required o.held);
           kept = λ v shut. ⊎_elim
               (λ first. ⊎_elim
-              (λ small. absurd (shut (among-open g.required blank v small (required_holds g v first) (value-blank v))))
-              (λ high. get_or_past (upto g 0 r) v none (subst (λ n. n ≤ v) (sym (length-upto g 0 r)) high)
-              ∙ sym (value-blank v))
+              (λ small. absurd (shut (among-open g.required blank v small (required_holds g v first)
+              (value-blank v))))
+              (λ high. upto_past g 0 r v high ∙ sym (value-blank v))
               (cases_lt v variables))
-              (λ other. upto_dropped g 0 r v (not_first (part_of g v) other) ∙ sym (value-blank v))
+              (λ other. upto_dropped g 0 r v (reached_first-no (part_of g v) other) ∙ sym (value-blank v))
               (cases_part (part_of g v) 0);
         }
-      where
-        not_first : (o : Option ℕ) → (o ≡ Some 0 → ⊥) → reached 0 o ≡ false
-        not_first None other = refl
-        not_first (Some zero) other = absurd (other refl)
-        not_first (Some (suc k)) other = reached_above 0 (suc k) (Some (suc k)) refl (omega arith)
 
     -- a row that is an answer in words is listed
     pub listed_from_words : 0 < times r (rows_of m e g)
     listed_from_words =
-        let starts = filter (stored m g.required) (completions m.top g.required blank) in
-        let held = stored_same m g.required (upto g 0 r) r (λ v there. upto_kept g 0 r v a.long
-        (reached_part 0 0 (part_of g v) (required_owns g v there) (omega arith))) ∙ a.required in
-        let start = member_filter (stored m g.required) (upto g 0 r) (completions m.top g.required blank) held
-        (filled_completion m.top g.required blank (upto g 0 r) length-blank filled_start) in
+        let held = stored_same m g.required (upto g 0 r) r
+        (λ v there. upto_part g 0 r v 0 a.long (required_owns g v there) (omega arith)) ∙ a.required in
+        let start = filled_bgp m g.required (upto g 0 r) filled_start held in
         times_member r (rows_of m e g)
-        (member_filter (passes e g.filter) r (flat_map (extended m e g.blocks) starts) a.filter
-        (member_flat_map (extended m e g.blocks) r (upto g 0 r) starts start
+        (member_filter (passes e g.filter) r (flat_map (extended m e g.blocks) (bgp m g.required)) a.filter
+        (member_flat_map (extended m e g.blocks) r (upto g 0 r) (bgp m g.required) start
         (listed_onward (length g.blocks) 0 (omega arith))))

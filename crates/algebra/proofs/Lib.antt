@@ -22,6 +22,8 @@ pub mod Ordered  -- the listing ascends
 pub mod Members  -- elements of lists
 pub mod Owners  -- to which part a variable belongs
 pub mod Phrases  -- laws of what the words on an answer name
+pub mod Fillings  -- rows that fill what triples leave open
 pub mod Work  -- rows in work, block by block
 pub mod ToWords  -- what is listed is an answer in words
 pub mod FromWords  -- an answer in words is listed
+pub mod BasicPatterns  -- a basic graph pattern in words

@@ -1,15 +1,17 @@
 -- Elements of lists, by the operation that made the list, and rows that are counted at least once. Assumes
 -- nothing.
 --     Member x xs     x is an element of xs
-use Rattle.std.proofs.Common.{◌≡◌, ℕ, ◌<◌, Bool, true, cond, ◌⊎◌, List, [], ◌∷◌, ◌++◌}
-use Rattle.std.proofs.Common.{refl, sym, ap, ◌∙◌, subst, inl, inr, ⊎_elim, arith}
+use Rattle.std.proofs.Common.{◌≡◌, ℕ, suc, ◌+◌, ◌<◌, Bool, true, cond, ◌⊎◌, List, [], ◌∷◌, ◌++◌, length, get_or}
+use Rattle.std.proofs.Common.{drop, refl, sym, ap, ◌∙◌, subst, inl, inr, ⊎_elim, arith}
+use Rattle.std.proofs.Math.Seq.{drop-cons}
 use Rattle.std.proofs.lemmas.Bool.{cases_Bool, cond-true, cond-false}
 use Rattle.std.proofs.lemmas.List.Sums.{sum_by-cons}
-use Rattle.std.proofs.lemmas.Slice.Eq.{bytes_eq-Decides}
 use Rattle.std.specs.List.{filter, flat_map, AllByRecursion}
 use Rattle.filter.specs.Rows.{Row}
 use Rattle.algebra.specs.Answers.{same_row, times}
+use Rattle.algebra.proofs.Listing.{or_itself}
 use Rattle.algebra.proofs.Lists.{filter-yes, filter-no}
+use Rattle.algebra.proofs.Rows.{same_row-true, same_row-decides}
 
 -- x is an element of the list
 abbrev pub Member : {A : Type 0} → A → List A → Type 0
@@ -76,6 +78,34 @@ module _ {A B : Type 0} (f : A → List B) (y : B) where
       (λ r. let (x, i, k) = member_flat_map_back xs r in (x, inr i, k))
       (member_append y (f z) (flat_map f xs) h)
 
+-- or_itself
+
+-- a list without elements is the empty one
+pub members_none : {A : Type 0} (xs : List A) → ((x : A) → Member x xs → ⊥) → xs ≡ []
+members_none [] h = refl
+members_none (x ∷ xs) h = absurd (h x (inl refl))
+
+pub or_itself_member : (s t : Row) (rows : List Row) → Member t (or_itself s rows)
+    → Member t rows ⊎ ((t ≡ s) × (rows ≡ []))
+or_itself_member s t [] h = ⊎_elim (λ e. inr (e, refl)) (λ never. absurd never) h
+or_itself_member s t (u ∷ rows) h = inl h
+
+pub or_itself_fits : (s t : Row) (rows : List Row) → Member t rows → Member t (or_itself s rows)
+or_itself_fits s t [] h = absurd h
+or_itself_fits s t (u ∷ rows) h = h
+
+pub or_itself_none : (s t : Row) (rows : List Row) → t ≡ s → rows ≡ [] → Member t (or_itself s rows)
+or_itself_none s t [] same none_there = inl same
+or_itself_none s t (u ∷ rows) same none_there = cc
+
+-- drop
+
+pub drop_next : {A : Type 0} (xs : List A) (k : ℕ) (d : A) → k < length xs
+    → drop k xs ≡ get_or xs k d ∷ drop (k + 1) xs
+drop_next xs k d low =
+    let next : suc k ≡ k + 1 = omega arith in
+    drop-cons xs k d low ∙ ap (λ j. get_or xs k d ∷ drop j xs) next
+
 -- times
 
 pub times_member : (r : Row) (rows : List Row) → Member r rows → 0 < times r rows
@@ -83,13 +113,13 @@ times_member r [] h = absurd h
 times_member r (s ∷ rows) h =
     let step = sum_by-cons (λ t. cond (same_row r t) 1 0) s rows in
     ⊎_elim
-    (λ e. let one = cond-true {A = ℕ} (same_row r s) 1 0 ((bytes_eq-Decides r s).1 e) in omega arith)
+    (λ e. let one = cond-true {A = ℕ} (same_row r s) 1 0 ((same_row-decides r s).1 e) in omega arith)
     (λ i. let more = times_member r rows i in omega arith) h
 
 pub member_times : (r : Row) (rows : List Row) → 0 < times r rows → Member r rows
 member_times r [] h = absurd (omega arith)
 member_times r (s ∷ rows) h =
     let step = sum_by-cons (λ t. cond (same_row r t) 1 0) s rows in
-    ⊎_elim (λ t. inl ((bytes_eq-Decides r s).0 t))
+    ⊎_elim (λ t. inl (same_row-true r s t))
     (λ f. let none = cond-false {A = ℕ} (same_row r s) 1 0 f in inr (member_times r rows (omega arith)))
     (cases_Bool (same_row r s))

@@ -22,7 +22,8 @@ pub part_from_holds : (v p : ℕ) (parts : List (List TriplePattern)) (k : ℕ) 
 part_from_holds v p [] k h = cc
 part_from_holds v p (ts ∷ parts) k h =
     ⊎_elim
-    (λ t. let e : Some p ≡ Some k = sym (cond-true (mentions v ts) (Some p) (part_from v (p + 1) parts) t) ∙ h in
+    (λ t. let e : Some p ≡ Some k =
+    sym (cond-true (mentions v ts) (Some p) (part_from v (p + 1) parts) t) ∙ h in
     let at : p ≡ k = cc in
     (0, omega arith, omega arith, t))
     (λ f. let e = sym (cond-false (mentions v ts) (Some p) (part_from v (p + 1) parts) f) ∙ h in

@@ -1,8 +1,10 @@
 -- Laws of what the words on an answer name: the variables reached, and a row with the values of the first
 -- parts alone. Assumes nothing.
 use Rattle.std.proofs.Common.{refl, ◌&&◌, ◌≡◌, ℕ, ◌+◌, ◌<◌, ◌≤◌, true, false, cond, ◌||◌, ◌⊎◌, List, [], ◌∷◌}
-use Rattle.std.proofs.Common.{length, Some, None, Option, sym, ap, ◌∙◌, subst, inl, inr, ⊎_elim, arith}
-use Rattle.std.proofs.lemmas.Bool.{cases_Bool, cases_lt, cond-true, cond-false, and_parts, or_cases}
+use Rattle.std.proofs.Common.{zero, suc, length, Some, None, Option, sym, ap, ◌∙◌, subst, inl, inr, ⊎_elim}
+use Rattle.std.proofs.Common.{arith}
+use Rattle.std.proofs.lemmas.Bool.{both_ways, cases_Bool, cases_lt, cond-true, cond-false, and_parts}
+use Rattle.std.proofs.lemmas.Bool.{or_cases}
 use Rattle.std.proofs.lemmas.Bool.{leb-true, le-leb, eqb-true, eq-eqb, or_left, or_right, lt-leb}
 use Rattle.std.proofs.lemmas.List.{get_or_past, ext_get_or}
 use Rattle.std.proofs.lemmas.List.FromFn.{get_or-map-range_with_len, length-map-range_with_len}
@@ -26,8 +28,8 @@ variable_number top r v (places.Variable w) h t = subst (λ x. Term top (value r
 variable_number top r v (places.Term x) h t = cc
 
 -- a variable of triples that are in the store has a term
-pub stored_terms : (m : Meaning) → Sound m → (ts : List TriplePattern) (r : Row) (v : ℕ) → stored m ts r ≡ true
-    → mentions v ts ≡ true → Term m.top (value r v)
+pub stored_terms : (m : Meaning) → Sound m → (ts : List TriplePattern) (r : Row) (v : ℕ)
+    → stored m ts r ≡ true → mentions v ts ≡ true → Term m.top (value r v)
 stored_terms m sound [] r v held there = cc
 stored_terms m sound (t ∷ ts) r v held there =
     let (first, rest) = and_parts (m.has (triple_under r t)) (stored m ts r) held in
@@ -39,8 +41,8 @@ stored_terms m sound (t ∷ ts) r v held there =
     (or_cases (is_variable v t.property) (is_variable v t.object) others))
     (or_cases (is_variable v t.subject) (is_variable v t.property || is_variable v t.object) here))
     (stored_terms m sound ts r v rest)
-    (or_cases (is_variable v t.subject || (is_variable v t.property || is_variable v t.object)) (mentions v ts)
-    there)
+    (or_cases (is_variable v t.subject || (is_variable v t.property || is_variable v t.object))
+    (mentions v ts) there)
 
 number_same : (r s : Row) (p : Place) → ((v : ℕ) → is_variable v p ≡ true → value r v ≡ value s v)
     → number_at r p ≡ number_at s p
@@ -60,8 +62,10 @@ triple_same r s t h =
     (λ v i. h v (or_right (is_variable v t.subject) (is_variable v t.property || is_variable v t.object)
     (or_right (is_variable v t.property) (is_variable v t.object) i))) in
     ap (λ n. record { subject = n; property = number_at r t.property; object = number_at r t.object }) subject
-    ∙ ap (λ n. record { subject = number_at s t.subject; property = n; object = number_at r t.object }) property
-    ∙ ap (λ n. record { subject = number_at s t.subject; property = number_at s t.property; object = n }) object
+    ∙ ap (λ n. record { subject = number_at s t.subject; property = n; object = number_at r t.object })
+    property
+    ∙ ap (λ n. record { subject = number_at s t.subject; property = number_at s t.property; object = n })
+    object
 
 -- rows with the same values for the variables of the triples have them in the store alike
 pub stored_same : (m : Meaning) (ts : List TriplePattern) (r s : Row)
@@ -90,11 +94,30 @@ pub reached_above : (p k : ℕ) (o : Option ℕ) → o ≡ Some k → p < k → 
 reached_above p k o e high = ap (reached p) e ∙ lt-leb k p high
 
 -- what is reached by one part more is reached before, or belongs to that part
-pub reached_next : (p : ℕ) (o : Option ℕ) → reached (p + 1) o ≡ true → (reached p o ≡ true) ⊎ (o ≡ Some (p + 1))
+pub reached_next : (p : ℕ) (o : Option ℕ) → reached (p + 1) o ≡ true
+    → (reached p o ≡ true) ⊎ (o ≡ Some (p + 1))
 reached_next p None h = inl h
 reached_next p (Some k) h =
     let low = leb-true k (p + 1) h in
     ⊎_elim (λ l. inl (le-leb k p (omega arith))) (λ l. inr (ap Some (omega arith))) (cases_lt k (p + 1))
+
+-- and what is not reached before, and does not belong to that part, is not
+pub reached_next-no : (p : ℕ) (o : Option ℕ) → reached p o ≡ false → (o ≡ Some (p + 1) → ⊥)
+    → reached (p + 1) o ≡ false
+reached_next-no p o f other =
+    ⊎_elim (λ t. ⊎_elim (λ before. absurd (both_ways (reached p o) f before)) (λ own. absurd (other own))
+    (reached_next p o t))
+    (λ n. n) (cases_Bool (reached (p + 1) o))
+
+pub reached_less-no : (p : ℕ) (o : Option ℕ) → reached (p + 1) o ≡ false → reached p o ≡ false
+reached_less-no p o f =
+    ⊎_elim (λ t. absurd (both_ways (reached (p + 1) o) f (reached_more p o t))) (λ n. n)
+    (cases_Bool (reached p o))
+
+pub reached_first-no : (o : Option ℕ) → (o ≡ Some 0 → ⊥) → reached 0 o ≡ false
+reached_first-no None other = refl
+reached_first-no (Some zero) other = absurd (other refl)
+reached_first-no (Some (suc k)) other = reached_above 0 (suc k) (Some (suc k)) refl (omega arith)
 
 -- upto
 
@@ -105,10 +128,10 @@ module _ (g : Group) (p : ℕ) (r : Row) where
   upto_at : (v : ℕ) → v < variables
       → value (upto g p r) v ≡ cond (reached p (part_of g v)) (value r v) none
   upto_at v low =
-      get_or-map-range_with_len (λ w. cond (reached p (part_of g w)) (value r w) none) 0 variables v v none low
-      (omega arith)
+      get_or-map-range_with_len (λ w. cond (reached p (part_of g w)) (value r w) none) 0 variables v v none
+      low (omega arith)
 
-  upto_past : (v : ℕ) → variables ≤ v → value (upto g p r) v ≡ none
+  pub upto_past : (v : ℕ) → variables ≤ v → value (upto g p r) v ≡ none
   upto_past v high = get_or_past (upto g p r) v none (subst (λ n. n ≤ v) (sym length-upto) high)
 
   pub upto_kept : (v : ℕ) → length r ≡ variables → reached p (part_of g v) ≡ true
@@ -117,6 +140,11 @@ module _ (g : Group) (p : ℕ) (r : Row) where
       ⊎_elim (λ low. upto_at v low ∙ cond-true (reached p (part_of g v)) (value r v) none h)
       (λ high. upto_past v high ∙ sym (get_or_past r v none (subst (λ n. n ≤ v) (sym long) high)))
       (cases_lt v variables)
+
+  -- the value of a variable of the part k
+  pub upto_part : (v k : ℕ) → length r ≡ variables → part_of g v ≡ Some k → k ≤ p
+      → value (upto g p r) v ≡ value r v
+  upto_part v k long own low = upto_kept v long (reached_part p k (part_of g v) own low)
 
   pub upto_dropped : (v : ℕ) → reached p (part_of g v) ≡ false → value (upto g p r) v ≡ none
   upto_dropped v h =

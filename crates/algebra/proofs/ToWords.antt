@@ -5,7 +5,7 @@ use Rattle.std.proofs.Common.{length, drop, None, refl, sym, ap, ◌∙◌, subs
 use Rattle.std.proofs.Common.{⊎_elim, arith}
 use Rattle.std.proofs.Math.ListN.{drop_of_length-le}
 use Rattle.std.proofs.lemmas.Bool.{both_ways, cases_eq}
-use Rattle.std.specs.List.{filter, flat_map}
+use Rattle.std.specs.List.{flat_map}
 use Rattle.catalogue.specs.Entries.{Entry}
 use Rattle.query.specs.Lawful.{shares}
 use Rattle.query.specs.Limits.{variables}
@@ -13,21 +13,24 @@ use Rattle.query.specs.Parts.{Group}
 use Rattle.triples.specs.Meaning.{Meaning, Term, Sound}
 use Rattle.filter.specs.Rows.{Row, none, value}
 use Rattle.filter.specs.Filters.{passes}
-use Rattle.algebra.specs.Patterns.{blank, stored, completions}
+use Rattle.algebra.specs.Patterns.{blank, stored}
+use Rattle.algebra.specs.Algebra.{bgp}
 use Rattle.algebra.specs.Answers.{times}
 use Rattle.algebra.specs.Order.{part_of}
 use Rattle.algebra.specs.Words.{reached, upto, Fits, Extended, Left, Answered, no_part}
-use Rattle.algebra.proofs.Listing.{fitting, or_itself, extended, rows_of}
+use Rattle.algebra.proofs.Listing.{or_itself, extended, rows_of}
 use Rattle.algebra.proofs.Assignments.{among-open_back}
+use Rattle.algebra.proofs.Rows.{length-blank, value-blank}
 use Rattle.algebra.proofs.Members.{Member, member_filter_back}
 use Rattle.algebra.proofs.Members.{member_flat_map_back, member_times}
+use Rattle.algebra.proofs.Members.{or_itself_member, drop_next}
 use Rattle.algebra.proofs.Owners.{block_at, block_holds, required_owns, required_holds}
-use Rattle.algebra.proofs.Rows.{length-blank, value-blank}
 use Rattle.algebra.proofs.Phrases.{stored_terms, stored_same, reached_part}
-use Rattle.algebra.proofs.Phrases.{upto_kept, upto_is}
-use Rattle.algebra.proofs.Work.{Filled, Worked, Asked, term_some, own_free, worked_next, upto_before, filled_kept}
-use Rattle.algebra.proofs.Work.{filled_from, completion_filled, fitting_filled, filled_fitting}
-use Rattle.algebra.proofs.Work.{or_itself_member, drop_next}
+use Rattle.algebra.proofs.Phrases.{upto_part, upto_is}
+use Rattle.algebra.proofs.Fillings.{Filled, fitting_filled}
+use Rattle.algebra.proofs.Fillings.{filled_fitting, bgp_filled}
+use Rattle.algebra.proofs.Work.{Worked, Asked, made_by, term_some, own_free, worked_next}
+use Rattle.algebra.proofs.Work.{upto_before, filled_kept, filled_from}
 
 -- r has s as its values up to the first k blocks, and each later block asks of it what it has
 pub record Onward (m : Meaning) (e : ℕ → Entry) (g : Group) (k : ℕ) (s r : Row) : Type 0 where
@@ -63,7 +66,7 @@ module _ (m : Meaning) (e : ℕ → Entry) (g : Group) (sound : Sound m) (apart 
       let kept = filled_kept g k s w apart low m.top t f in
       let extended : Extended m e g (k + 1) (block_at g k) r = record {
         values = λ v own. subst (Term m.top) (sym (ap (λ u. value u v) on.before)
-            ∙ upto_kept g (k + 1) r v on.long (reached_part (k + 1) (k + 1) (part_of g v) own (omega arith)))
+            ∙ upto_part g (k + 1) r v (k + 1) on.long own (omega arith))
             (stored_terms m sound (block_at g k).triples t v fits.triples ((block_holds g k v own).1));
         fits = subst (Fits m e (block_at g k)) (sym on.before) fits;
       } in
@@ -81,7 +84,7 @@ module _ (m : Meaning) (e : ℕ → Entry) (g : Group) (sound : Sound m) (apart 
   onward_left k s r low w never on =
       let left : Left m e g (k + 1) (block_at g k) r = record {
         valueless = λ v own.
-            sym (upto_kept g (k + 1) r v on.long (reached_part (k + 1) (k + 1) (part_of g v) own (omega arith)))
+            sym (upto_part g (k + 1) r v (k + 1) on.long own (omega arith))
             ∙ ap (λ u. value u v) on.before ∙ own_free g k s w v own;
         nothing = λ t gives fits. never t
             (filled_from g k s w apart low m.top t gives.long gives.own
@@ -105,7 +108,7 @@ module _ (m : Meaning) (e : ℕ → Entry) (g : Group) (sound : Sound m) (apart 
   onward_listed (suc n) k s r all w h =
       let low : k < length g.blocks = omega arith in
       let all_next : (k + 1) + n ≡ length g.blocks = omega arith in
-      let fits = fitting m (passes e (block_at g k).filter) (block_at g k).triples s in
+      let fits = made_by m e g k s in
       let (t, from, on) = member_flat_map_back (extended m e (drop (k + 1) g.blocks)) r (or_itself s fits)
       (subst (λ bs. Member r (extended m e bs s)) (drop_next g.blocks k no_part low) h) in
       ⊎_elim
@@ -138,8 +141,7 @@ module _ (m : Meaning) (e : ℕ → Entry) (g : Group) (sound : Sound m) (apart 
       record {
         long = on.long;
         required = stored_same m g.required r s (λ v there.
-            sym (upto_kept g 0 r v on.long
-            (reached_part 0 0 (part_of g v) (required_owns g v there) (omega arith)))
+            sym (upto_part g 0 r v 0 on.long (required_owns g v there) (omega arith))
             ∙ ap (λ u. value u v) on.before)
             ∙ held;
         blocks = λ i low. on.blocks i (omega arith) low;
@@ -150,12 +152,9 @@ module _ (m : Meaning) (e : ℕ → Entry) (g : Group) (sound : Sound m) (apart 
   -- a row that is listed is an answer in words
   pub words_from_listed : (r : Row) → 0 < times r (rows_of m e g) → Answered m e g r
   words_from_listed r h =
-      let starts = filter (stored m g.required) (completions m.top g.required blank) in
-      let (there, true_on) = member_filter_back (passes e g.filter) r (flat_map (extended m e g.blocks) starts)
-      (member_times r (rows_of m e g) h) in
-      let (s, start, on) = member_flat_map_back (extended m e g.blocks) r starts there in
-      let (completion, held) = member_filter_back (stored m g.required) s (completions m.top g.required blank)
-      start in
-      let f = completion_filled m.top g.required blank s length-blank completion in
+      let (there, true_on) = member_filter_back (passes e g.filter) r
+      (flat_map (extended m e g.blocks) (bgp m g.required)) (member_times r (rows_of m e g) h) in
+      let (s, start, on) = member_flat_map_back (extended m e g.blocks) r (bgp m g.required) there in
+      let (f, held) = bgp_filled m g.required s start in
       answered_onward s r held
       (onward_listed (length g.blocks) 0 s r (omega arith) (worked_start s f held) on) true_on

@@ -1,39 +1,28 @@
 -- A row in work: what the walk has of an answer when its first blocks are done, and how the next block makes
 -- the next one of it. Assumes nothing.
---     Filled top ts r s     s gives each variable that ts leave open in r a term, and is like r elsewhere
 --     Worked g k s          a row that may be in work when the first k blocks are done
 --     Asked m e g r i       what block number i asks of an answer
-use Rattle.std.proofs.Common.{◌≡◌, ℕ, suc, ◌+◌, ◌<◌, ◌≤◌, true, false, ◌⊎◌, ◌≢◌, List, [], ◌∷◌}
-use Rattle.std.proofs.Common.{length, drop, get_or, Some, None, Option, refl, sym, ap, ◌∙◌, subst, inl, inr}
+use Rattle.std.proofs.Common.{◌≡◌, ℕ, ◌+◌, ◌<◌, ◌≤◌, true, false, ◌⊎◌, ◌≢◌, List}
+use Rattle.std.proofs.Common.{length, Some, None, Option, sym, ap, ◌∙◌, subst, inl, inr}
 use Rattle.std.proofs.Common.{⊎_elim, arith}
-use Rattle.std.proofs.Math.Seq.{drop-cons}
-use Rattle.std.proofs.lemmas.Bool.{cases_Bool, both_ways, cases_lt, cases_eq}
+use Rattle.std.proofs.lemmas.Bool.{both_ways, cases_lt, cases_eq}
 use Rattle.std.proofs.lemmas.List.{get_or_past}
-use Rattle.std.specs.List.{filter}
 use Rattle.catalogue.specs.Entries.{Entry}
-use Rattle.query.specs.declared.pattern.TriplePattern.{TriplePattern}
 use Rattle.query.specs.Lawful.{mentions, shares}
 use Rattle.query.specs.Limits.{variables}
-use Rattle.query.specs.Parts.{Part, Group}
+use Rattle.query.specs.Parts.{Group}
 use Rattle.triples.specs.Meaning.{Meaning, Term}
 use Rattle.filter.specs.Rows.{Row, none, value}
 use Rattle.filter.specs.Filters.{passes}
-use Rattle.algebra.specs.Patterns.{stored, open_variables, completions}
 use Rattle.algebra.specs.Order.{part_of}
-use Rattle.algebra.specs.Words.{reached, upto, Fits, Extended, Left}
-use Rattle.algebra.proofs.Listing.{fitting, or_itself}
-use Rattle.algebra.proofs.Assignments.{Fills, among-open, among-open_back, completions-fill, fills-once, open-rising}
-use Rattle.algebra.proofs.Members.{Member, member_all, member_filter, member_filter_back}
-use Rattle.algebra.proofs.Members.{member_times}
+use Rattle.algebra.specs.Words.{reached, upto, Extended, Left}
+use Rattle.algebra.proofs.Listing.{fitting}
+use Rattle.algebra.proofs.Assignments.{among-open, among-open_back}
 use Rattle.algebra.proofs.Owners.{block_at, block_holds, block_owns}
 use Rattle.algebra.proofs.Phrases.{reached_part, reached_more, reached_above}
+use Rattle.algebra.proofs.Phrases.{reached_less-no}
 use Rattle.algebra.proofs.Phrases.{upto_kept, upto_is}
-
--- rows in work
-
--- s gives each variable that the patterns leave open in r a term, and is like r elsewhere
-abbrev pub Filled : ℕ → List TriplePattern → Row → Row → Type 0
-Filled top ts r s = Fills top (open_variables ts r) r s
+use Rattle.algebra.proofs.Fillings.{Filled}
 
 -- the variables of the required triples have values, those that belong to parts after k have none
 pub record Worked (g : Group) (k : ℕ) (s : Row) : Type 0 where
@@ -68,8 +57,7 @@ module _ (g : Group) (k : ℕ) (s : Row) (w : Worked g k s) where
         long = long;
         later = λ v far. kept v (λ own. both_ways (reached (k + 1) (part_of g v)) far
             (reached_part (k + 1) (k + 1) (part_of g v) own (omega arith)))
-            ∙ w.later v (⊎_elim (λ t. absurd (both_ways (reached (k + 1) (part_of g v)) far
-            (reached_more k (part_of g v) t))) (λ f. f) (cases_Bool (reached k (part_of g v))));
+            ∙ w.later v (reached_less-no k (part_of g v) far);
         required = λ v first e. w.required v first (sym (kept v (λ own.
             let never = one_part (part_of g v) 0 (k + 1) first own in omega arith)) ∙ e);
       }
@@ -119,66 +107,11 @@ module _ (g : Group) (k : ℕ) (s : Row) (w : Worked g k s) where
               (others v) (cases_part (part_of g v) (k + 1));
         }
 
--- completions
+-- what a block makes of a row, and what it asks
 
-pub completion_filled : (top : ℕ) (ts : List TriplePattern) (r s : Row) → length r ≡ variables
-    → Member s (completions top ts r) → Filled top ts r s
-completion_filled top ts r s long h =
-    member_all (Filled top ts r) s (completions top ts r) (completions-fill top ts r long) h
-
-pub filled_completion : (top : ℕ) (ts : List TriplePattern) (r s : Row) → length r ≡ variables
-    → Filled top ts r s → Member s (completions top ts r)
-filled_completion top ts r s long f =
-    let once = fills-once top (open_variables ts r) r s (open-rising ts r long) f in
-    member_times s (completions top ts r) (omega arith)
-
--- fitting
-
--- what a row that the block fits is: filled from s, and fitting
-pub fitting_filled : (m : Meaning) (e : ℕ → Entry) (b : Part) (s t : Row) → length s ≡ variables
-    → Member t (fitting m (passes e b.filter) b.triples s) → Filled m.top b.triples s t × Fits m e b t
-fitting_filled m e b s t long h =
-    let (there, true_on) = member_filter_back (passes e b.filter) t
-    (filter (stored m b.triples) (completions m.top b.triples s)) h in
-    let (completion, held) = member_filter_back (stored m b.triples) t (completions m.top b.triples s) there in
-    (completion_filled m.top b.triples s t long completion, record { triples = held; filter = true_on })
-
-pub filled_fitting : (m : Meaning) (e : ℕ → Entry) (b : Part) (s t : Row) → length s ≡ variables
-    → Filled m.top b.triples s t → Fits m e b t → Member t (fitting m (passes e b.filter) b.triples s)
-filled_fitting m e b s t long f fits =
-    member_filter (passes e b.filter) t (filter (stored m b.triples) (completions m.top b.triples s)) fits.filter
-    (member_filter (stored m b.triples) t (completions m.top b.triples s) fits.triples
-    (filled_completion m.top b.triples s t long f))
-
--- or_itself
-
--- a list without elements is the empty one
-pub members_none : {A : Type 0} (xs : List A) → ((x : A) → Member x xs → ⊥) → xs ≡ []
-members_none [] h = refl
-members_none (x ∷ xs) h = absurd (h x (inl refl))
-
-pub or_itself_member : (s t : Row) (rows : List Row) → Member t (or_itself s rows)
-    → Member t rows ⊎ ((t ≡ s) × (rows ≡ []))
-or_itself_member s t [] h = ⊎_elim (λ e. inr (e, refl)) (λ never. absurd never) h
-or_itself_member s t (u ∷ rows) h = inl h
-
-pub or_itself_fits : (s t : Row) (rows : List Row) → Member t rows → Member t (or_itself s rows)
-or_itself_fits s t [] h = absurd h
-or_itself_fits s t (u ∷ rows) h = h
-
-pub or_itself_none : (s t : Row) (rows : List Row) → t ≡ s → rows ≡ [] → Member t (or_itself s rows)
-or_itself_none s t [] same none_there = inl same
-or_itself_none s t (u ∷ rows) same none_there = cc
-
--- drop
-
-pub drop_next : {A : Type 0} (xs : List A) (k : ℕ) (d : A) → k < length xs
-    → drop k xs ≡ get_or xs k d ∷ drop (k + 1) xs
-drop_next xs k d low =
-    let next : suc k ≡ k + 1 = omega arith in
-    drop-cons xs k d low ∙ ap (λ j. get_or xs k d ∷ drop j xs) next
-
--- what a block asks
+-- the rows that block number k of the alternative makes of s, where it fits
+abbrev pub made_by : Meaning → (ℕ → Entry) → Group → ℕ → Row → List Row
+made_by m e g k s = fitting m (passes e (block_at g k).filter) (block_at g k).triples s
 
 -- what block number i of the alternative asks of r
 abbrev pub Asked : Meaning → (ℕ → Entry) → Group → Row → ℕ → Type 0
