@@ -27,3 +27,5 @@ pub mod Work  -- rows in work, block by block
 pub mod ToWords  -- what is listed is an answer in words
 pub mod FromWords  -- an answer in words is listed
 pub mod BasicPatterns  -- a basic graph pattern in words
+pub mod Numbered  -- the answers of each alternative
+pub mod Solutions  -- the solutions of an alternative in words

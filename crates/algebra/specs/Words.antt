@@ -26,13 +26,14 @@ pub record Fits (m : Meaning) (e : ℕ → Entry) (b : Part) (r : Row) : Type 0 
   pub triples : stored m b.triples r ≡ true
   pub filter : passes e b.filter r ≡ true
 
--- every variable that belongs to part p has a value, and with the values of the parts up to p the block fits
+-- every variable that belongs to part p has a value from 1 to the top, and with the values of the parts up to
+-- p the block fits
 pub record Extended (m : Meaning) (e : ℕ → Entry) (g : Group) (p : ℕ) (b : Part) (r : Row) : Type 0 where
   pub values : (v : ℕ) → part_of g v ≡ Some p → Term m.top (value r v)
   pub fits : Fits m e b (upto g p r)
 
--- s is the row with the values of the parts up to p, but for its own variables, to which it gives values from
--- 1 to the top
+-- s is r with the values of the parts up to p alone, but for the variables that belong to part p: to those it
+-- gives values from 1 to the top, whatever r gives them
 pub record Gives (top : ℕ) (g : Group) (p : ℕ) (r s : Row) : Type 0 where
   pub long : length s ≡ variables
   pub own : (v : ℕ) → part_of g v ≡ Some p → Term top (value s v)
