@@ -41,7 +41,7 @@ one-filtered test r s =
     ∙ ap (λ b. cond (test r) (cond b 1 0) 0) (sym f))
     (cases_Bool (same_row r s))
 
-times-filter : (test : Row → Bool) (rows : List Row) (r : Row)
+pub times-filter : (test : Row → Bool) (rows : List Row) (r : Row)
     → times r (filter test rows) ≡ cond (test r) (times r rows) 0
 times-filter test rows r =
     times-total r (filter test rows)
@@ -52,7 +52,7 @@ times-filter test rows r =
 
 -- ++
 
-times-append : (left right : List Row) (r : Row) → times r (left ++ right) ≡ times r left + times r right
+pub times-append : (left right : List Row) (r : Row) → times r (left ++ right) ≡ times r left + times r right
 times-append left right r =
     omega (
       arith,

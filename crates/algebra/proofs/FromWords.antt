@@ -24,7 +24,8 @@ use Rattle.algebra.proofs.Members.{Member, member_filter, member_flat_map}
 use Rattle.algebra.proofs.Members.{times_member, members_none}
 use Rattle.algebra.proofs.Members.{or_itself_fits, or_itself_none, drop_next}
 use Rattle.algebra.proofs.Owners.{block_at, block_holds, required_owns, required_holds}
-use Rattle.algebra.proofs.Phrases.{stored_terms, stored_same, reached_part, reached_more, reached_above}
+use Rattle.algebra.proofs.Patterns.{stored-same}
+use Rattle.algebra.proofs.Phrases.{stored_terms, reached_part, reached_more, reached_above}
 use Rattle.algebra.proofs.Phrases.{reached_next, reached_next-no, reached_less-no, reached_first-no}
 use Rattle.algebra.proofs.Phrases.{length-upto, upto_kept, upto_part, upto_dropped, upto_is, upto_past}
 use Rattle.algebra.proofs.Fillings.{Filled, fitting_filled}
@@ -142,7 +143,7 @@ module _ (m : Meaning) (e : ℕ → Entry) (g : Group) (r : Row) (a : Answered m
     -- a row that is an answer in words is listed
     pub listed_from_words : 0 < times r (rows_of m e g)
     listed_from_words =
-        let held = stored_same m g.required (upto g 0 r) r
+        let held = stored-same m g.required (upto g 0 r) r
         (λ v there. upto_part g 0 r v 0 a.long (required_owns g v there) (omega arith)) ∙ a.required in
         let start = filled_bgp m g.required (upto g 0 r) filled_start held in
         times_member r (rows_of m e g)

@@ -44,40 +44,6 @@ stored_terms m sound (t ∷ ts) r v held there =
     (or_cases (is_variable v t.subject || (is_variable v t.property || is_variable v t.object))
     (mentions v ts) there)
 
-number_same : (r s : Row) (p : Place) → ((v : ℕ) → is_variable v p ≡ true → value r v ≡ value s v)
-    → number_at r p ≡ number_at s p
-number_same r s (places.Variable w) h = h w (eq-eqb w w refl)
-number_same r s (places.Term x) h = refl
-
-triple_same : (r s : Row) (t : TriplePattern)
-    → ((v : ℕ) → (is_variable v t.subject || (is_variable v t.property || is_variable v t.object)) ≡ true
-    → value r v ≡ value s v) → triple_under r t ≡ triple_under s t
-triple_same r s t h =
-    let subject = number_same r s t.subject
-    (λ v i. h v (or_left (is_variable v t.subject) (is_variable v t.property || is_variable v t.object) i)) in
-    let property = number_same r s t.property
-    (λ v i. h v (or_right (is_variable v t.subject) (is_variable v t.property || is_variable v t.object)
-    (or_left (is_variable v t.property) (is_variable v t.object) i))) in
-    let object = number_same r s t.object
-    (λ v i. h v (or_right (is_variable v t.subject) (is_variable v t.property || is_variable v t.object)
-    (or_right (is_variable v t.property) (is_variable v t.object) i))) in
-    ap (λ n. record { subject = n; property = number_at r t.property; object = number_at r t.object }) subject
-    ∙ ap (λ n. record { subject = number_at s t.subject; property = n; object = number_at r t.object })
-    property
-    ∙ ap (λ n. record { subject = number_at s t.subject; property = number_at s t.property; object = n })
-    object
-
--- rows with the same values for the variables of the triples have them in the store alike
-pub stored_same : (m : Meaning) (ts : List TriplePattern) (r s : Row)
-    → ((v : ℕ) → mentions v ts ≡ true → value r v ≡ value s v) → stored m ts r ≡ stored m ts s
-stored_same m [] r s h = refl
-stored_same m (t ∷ ts) r s h =
-    let first = triple_same r s t (λ v i. h v (or_left
-    (is_variable v t.subject || (is_variable v t.property || is_variable v t.object)) (mentions v ts) i)) in
-    let rest = stored_same m ts r s (λ v i. h v (or_right
-    (is_variable v t.subject || (is_variable v t.property || is_variable v t.object)) (mentions v ts) i)) in
-    ap (λ u. m.has u && stored m ts r) first ∙ ap (λ b. m.has (triple_under s t) && b) rest
-
 -- reached
 
 pub reached_part : (p k : ℕ) (o : Option ℕ) → o ≡ Some k → k ≤ p → reached p o ≡ true

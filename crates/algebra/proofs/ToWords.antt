@@ -25,7 +25,8 @@ use Rattle.algebra.proofs.Members.{Member, member_filter_back}
 use Rattle.algebra.proofs.Members.{member_flat_map_back, member_times}
 use Rattle.algebra.proofs.Members.{or_itself_member, drop_next}
 use Rattle.algebra.proofs.Owners.{block_at, block_holds, required_owns, required_holds}
-use Rattle.algebra.proofs.Phrases.{stored_terms, stored_same, reached_part}
+use Rattle.algebra.proofs.Patterns.{stored-same}
+use Rattle.algebra.proofs.Phrases.{stored_terms, reached_part}
 use Rattle.algebra.proofs.Phrases.{upto_part, upto_is}
 use Rattle.algebra.proofs.Fillings.{Filled, fitting_filled}
 use Rattle.algebra.proofs.Fillings.{filled_fitting, bgp_filled}
@@ -140,7 +141,7 @@ module _ (m : Meaning) (e : ℕ → Entry) (g : Group) (sound : Sound m) (apart 
   answered_onward s r held on true_on =
       record {
         long = on.long;
-        required = stored_same m g.required r s (λ v there.
+        required = stored-same m g.required r s (λ v there.
             sym (upto_part g 0 r v 0 on.long (required_owns g v there) (omega arith))
             ∙ ap (λ u. value u v) on.before)
             ∙ held;
