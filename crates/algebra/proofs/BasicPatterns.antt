@@ -1,5 +1,5 @@
 -- A basic graph pattern in words. Assumes nothing.
-use Rattle.std.proofs.Common.{false, refl, ◌≡◌, ℕ, Bool, true, cond, List, sym, ap, ◌∙◌, ⊎_elim}
+use Rattle.std.proofs.Common.{◌≡◌, true, cond, List, ap, ◌∙◌, ⊎_elim}
 use Rattle.std.proofs.lemmas.Bool.{cond-true, both_ways}
 use Rattle.std.specs.List.{filter}
 use Rattle.query.specs.declared.pattern.TriplePattern.{TriplePattern}
@@ -8,16 +8,16 @@ use Rattle.triples.specs.Meaning.{Meaning, Sound}
 use Rattle.filter.specs.Rows.{Row}
 use Rattle.algebra.specs.Admissions.{Completes}
 use Rattle.algebra.specs.Algebra.{bgp}
-use Rattle.algebra.specs.Answers.{times, same_row}
+use Rattle.algebra.specs.Answers.{times}
 use Rattle.algebra.specs.Patterns.{blank, stored, completions}
 use Rattle.algebra.specs.Theorems.{BasicPatterns}
 use Rattle.algebra.proofs.Assignments.{among-open_back, completes-once}
 use Rattle.algebra.proofs.Cardinalities.{times-filter}
 use Rattle.algebra.proofs.Fillings.{Filled, bgp_filled}
-use Rattle.algebra.proofs.Lists.{total-filter, total-like}
+use Rattle.algebra.proofs.Lists.{}
 use Rattle.algebra.proofs.Members.{member_times}
 use Rattle.algebra.proofs.Phrases.{stored_terms}
-use Rattle.algebra.proofs.Rows.{length-blank, times-total, same_row-true}
+use Rattle.algebra.proofs.Rows.{length-blank}
 
 -- a row that fills what the patterns leave open in the row without values, and has them in a store of terms,
 -- completes that row

@@ -1,9 +1,7 @@
 -- The rows that fill what triples leave open: the completions of a row, those among them that fit, and the
 -- solutions of a basic graph pattern. Assumes nothing.
 --     Filled top ts r s     s gives each variable that ts leave open in r a term, and is like r elsewhere
-use Rattle.std.proofs.Common.{◌≡◌, ℕ, true, List}
-use Rattle.std.proofs.Common.{length}
-use Rattle.std.proofs.Common.{arith}
+use Rattle.std.proofs.Common.{◌≡◌, ℕ, true, List, length, arith}
 use Rattle.std.specs.List.{filter}
 use Rattle.catalogue.specs.Entries.{Entry}
 use Rattle.query.specs.declared.pattern.TriplePattern.{TriplePattern}
@@ -16,11 +14,9 @@ use Rattle.algebra.specs.Patterns.{blank, stored, open_variables, completions}
 use Rattle.algebra.specs.Algebra.{bgp}
 use Rattle.algebra.specs.Words.{Fits}
 use Rattle.algebra.proofs.Listing.{fitting}
-use Rattle.algebra.proofs.Assignments.{Fills, completions-fill, fills-once}
-use Rattle.algebra.proofs.Assignments.{open-rising}
+use Rattle.algebra.proofs.Assignments.{Fills, completions-fill, fills-once, open-rising}
 use Rattle.algebra.proofs.Rows.{length-blank}
-use Rattle.algebra.proofs.Members.{Member, member_all, member_filter, member_filter_back}
-use Rattle.algebra.proofs.Members.{member_times}
+use Rattle.algebra.proofs.Members.{Member, member_all, member_filter, member_filter_back, member_times}
 
 -- s gives each variable that the patterns leave open in r a term, and is like r elsewhere
 abbrev pub Filled : ℕ → List TriplePattern → Row → Row → Type 0

@@ -1,7 +1,6 @@
 -- A row that is an answer in words is listed. Assumes nothing.
-use Rattle.std.proofs.Common.{◌≡◌, ℕ, zero, suc, ◌+◌, ◌<◌, false}
-use Rattle.std.proofs.Common.{length, drop, Some, None, Option, refl, sym, ap, ◌∙◌, subst, inl}
-use Rattle.std.proofs.Common.{⊎_elim, arith}
+use Rattle.std.proofs.Common.{◌≡◌, ℕ, zero, suc, ◌+◌, ◌<◌, false, length, drop, Some, None, Option, refl, sym}
+use Rattle.std.proofs.Common.{ap, ◌∙◌, subst, inl, ⊎_elim, arith}
 use Rattle.std.proofs.Math.ListN.{drop_of_length-le}
 use Rattle.std.proofs.lemmas.Bool.{cases_Bool, both_ways, cases_lt}
 use Rattle.std.specs.List.{flat_map}
@@ -20,18 +19,15 @@ use Rattle.algebra.specs.Words.{reached, upto, Left, Answered, no_part}
 use Rattle.algebra.proofs.Listing.{or_itself, extended, rows_of}
 use Rattle.algebra.proofs.Assignments.{among-open, among-open_back}
 use Rattle.algebra.proofs.Rows.{length-blank, value-blank}
-use Rattle.algebra.proofs.Members.{Member, member_filter, member_flat_map}
-use Rattle.algebra.proofs.Members.{times_member, members_none}
+use Rattle.algebra.proofs.Members.{Member, member_filter, member_flat_map, times_member, members_none}
 use Rattle.algebra.proofs.Members.{or_itself_fits, or_itself_none, drop_next}
 use Rattle.algebra.proofs.Owners.{block_at, block_holds, required_owns, required_holds}
 use Rattle.algebra.proofs.Patterns.{stored-same}
-use Rattle.algebra.proofs.Phrases.{stored_terms, reached_part, reached_more, reached_above}
-use Rattle.algebra.proofs.Phrases.{reached_next, reached_next-no, reached_less-no, reached_first-no}
-use Rattle.algebra.proofs.Phrases.{length-upto, upto_kept, upto_part, upto_dropped, upto_is, upto_past}
-use Rattle.algebra.proofs.Fillings.{Filled, fitting_filled}
-use Rattle.algebra.proofs.Fillings.{filled_fitting, filled_bgp}
-use Rattle.algebra.proofs.Work.{Worked, Asked, made_by, cases_part, term_some}
-use Rattle.algebra.proofs.Work.{filled_kept, filled_from}
+use Rattle.algebra.proofs.Phrases.{stored_terms, reached_part, reached_more, reached_above, reached_next}
+use Rattle.algebra.proofs.Phrases.{reached_next-no, reached_less-no, reached_first-no, length-upto, upto_kept}
+use Rattle.algebra.proofs.Phrases.{upto_part, upto_dropped, upto_is, upto_past}
+use Rattle.algebra.proofs.Fillings.{Filled, fitting_filled, filled_fitting, filled_bgp}
+use Rattle.algebra.proofs.Work.{Worked, Asked, made_by, cases_part, term_some, filled_kept, filled_from}
 
 module _ (m : Meaning) (e : ℕ → Entry) (g : Group) (r : Row) (a : Answered m e g r) where
   -- with the values of all blocks it is the row itself

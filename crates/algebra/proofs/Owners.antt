@@ -1,7 +1,6 @@
 -- To which part of an alternative a variable belongs. Assumes nothing.
-use Rattle.std.proofs.Common.{◌≡◌, ℕ, zero, suc, ◌+◌, ◌<◌, ◌≤◌, Bool, true, false, not, ◌&&◌, ◌⊎◌}
-use Rattle.std.proofs.Common.{List, [], ◌∷◌, map, length, get_or, Some}
-use Rattle.std.proofs.Common.{sym, ap, ◌∙◌, subst, inl, inr, ⊎_elim, arith}
+use Rattle.std.proofs.Common.{◌≡◌, ℕ, zero, suc, ◌+◌, ◌<◌, ◌≤◌, Bool, true, false, not, ◌&&◌, ◌⊎◌, List, []}
+use Rattle.std.proofs.Common.{◌∷◌, map, length, get_or, Some, sym, ap, ◌∙◌, subst, inl, inr, ⊎_elim, arith}
 use Rattle.std.proofs.Math.ListN.{length-map, get_or-map}
 use Rattle.std.proofs.lemmas.Bool.{cases_Bool, both_ways, cases_lt, cond-true, cond-false, and_from, or_left}
 use Rattle.std.proofs.lemmas.Bool.{or_right, not_from_false}
@@ -9,6 +8,7 @@ use Rattle.std.proofs.lemmas.List.Folds.{list_any_at}
 use Rattle.std.specs.List.{list_any}
 use Rattle.query.specs.declared.pattern.TriplePattern.{TriplePattern}
 use Rattle.query.specs.Lawful.{in_two, mentions, shares}
+use Rattle.query.specs.Limits.{variables}
 use Rattle.query.specs.Parts.{Part, Group}
 use Rattle.query.proofs.Lawful.{shares_decides}
 use Rattle.algebra.specs.Order.{part_from, part_of, parts_of}
@@ -93,7 +93,7 @@ block_holds g i v h =
 
 -- a variable in the triples of block i belongs to that block, or to the required triples: it is in two blocks
 -- only if it is in those
-pub block_owns : (g : Group) → shares g ≡ false → (i v : ℕ) → v < 16 → i < length g.blocks
+pub block_owns : (g : Group) → shares g ≡ false → (i v : ℕ) → v < variables → i < length g.blocks
     → mentions v (block_at g i).triples ≡ true → (part_of g v ≡ Some 0) ⊎ (part_of g v ≡ Some (i + 1))
 block_owns g apart i v small low t =
     let there = subst (λ ts. mentions v ts ≡ true)

@@ -1,11 +1,9 @@
 -- Laws of what the words on an answer name: the variables reached, and a row with the values of the first
 -- parts alone. Assumes nothing.
-use Rattle.std.proofs.Common.{refl, ◌&&◌, ◌≡◌, ℕ, ◌+◌, ◌<◌, ◌≤◌, true, false, cond, ◌||◌, ◌⊎◌, List, [], ◌∷◌}
-use Rattle.std.proofs.Common.{zero, suc, length, Some, None, Option, sym, ap, ◌∙◌, subst, inl, inr, ⊎_elim}
-use Rattle.std.proofs.Common.{arith}
+use Rattle.std.proofs.Common.{refl, ◌≡◌, ℕ, ◌+◌, ◌<◌, ◌≤◌, true, false, cond, ◌||◌, ◌⊎◌, List, [], ◌∷◌, zero}
+use Rattle.std.proofs.Common.{suc, length, Some, None, Option, sym, ap, ◌∙◌, subst, inl, inr, ⊎_elim, arith}
 use Rattle.std.proofs.lemmas.Bool.{both_ways, cases_Bool, cases_lt, cond-true, cond-false, and_parts}
-use Rattle.std.proofs.lemmas.Bool.{or_cases}
-use Rattle.std.proofs.lemmas.Bool.{leb-true, le-leb, eqb-true, eq-eqb, or_left, or_right, lt-leb}
+use Rattle.std.proofs.lemmas.Bool.{or_cases, leb-true, le-leb, eqb-true, lt-leb}
 use Rattle.std.proofs.lemmas.List.{get_or_past, ext_get_or}
 use Rattle.std.proofs.lemmas.List.FromFn.{get_or-map-range_with_len, length-map-range_with_len}
 use Rattle.query.specs.declared.pattern.TriplePattern.{TriplePattern}

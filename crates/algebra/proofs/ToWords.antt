@@ -1,8 +1,7 @@
 -- A row that is listed is an answer in words. Assumes nothing.
 --     Onward m e g k s r    r is what the words say of it from block k on, and s is what it was before that
-use Rattle.std.proofs.Common.{◌≡◌, ℕ, zero, suc, ◌+◌, ◌<◌, ◌≤◌, true, false}
-use Rattle.std.proofs.Common.{length, drop, None, refl, sym, ap, ◌∙◌, subst, inl, inr}
-use Rattle.std.proofs.Common.{⊎_elim, arith}
+use Rattle.std.proofs.Common.{◌≡◌, ℕ, zero, suc, ◌+◌, ◌<◌, ◌≤◌, true, false, length, drop, None, refl, sym}
+use Rattle.std.proofs.Common.{ap, ◌∙◌, subst, inl, inr, ⊎_elim, arith}
 use Rattle.std.proofs.Math.ListN.{drop_of_length-le}
 use Rattle.std.proofs.lemmas.Bool.{both_ways, cases_eq}
 use Rattle.std.specs.List.{flat_map}
@@ -21,17 +20,14 @@ use Rattle.algebra.specs.Words.{reached, upto, Fits, Extended, Left, Answered, n
 use Rattle.algebra.proofs.Listing.{or_itself, extended, rows_of}
 use Rattle.algebra.proofs.Assignments.{among-open_back}
 use Rattle.algebra.proofs.Rows.{length-blank, value-blank}
-use Rattle.algebra.proofs.Members.{Member, member_filter_back}
-use Rattle.algebra.proofs.Members.{member_flat_map_back, member_times}
+use Rattle.algebra.proofs.Members.{Member, member_filter_back, member_flat_map_back, member_times}
 use Rattle.algebra.proofs.Members.{or_itself_member, drop_next}
 use Rattle.algebra.proofs.Owners.{block_at, block_holds, required_owns, required_holds}
 use Rattle.algebra.proofs.Patterns.{stored-same}
-use Rattle.algebra.proofs.Phrases.{stored_terms, reached_part}
-use Rattle.algebra.proofs.Phrases.{upto_part, upto_is}
-use Rattle.algebra.proofs.Fillings.{Filled, fitting_filled}
-use Rattle.algebra.proofs.Fillings.{filled_fitting, bgp_filled}
-use Rattle.algebra.proofs.Work.{Worked, Asked, made_by, term_some, own_free, worked_next}
-use Rattle.algebra.proofs.Work.{upto_before, filled_kept, filled_from}
+use Rattle.algebra.proofs.Phrases.{stored_terms, reached_part, upto_part, upto_is}
+use Rattle.algebra.proofs.Fillings.{Filled, fitting_filled, filled_fitting, bgp_filled}
+use Rattle.algebra.proofs.Work.{Worked, Asked, made_by, term_some, own_free, worked_next, upto_before}
+use Rattle.algebra.proofs.Work.{filled_kept, filled_from}
 
 -- r has s as its values up to the first k blocks, and each later block asks of it what it has
 pub record Onward (m : Meaning) (e : ℕ → Entry) (g : Group) (k : ℕ) (s r : Row) : Type 0 where

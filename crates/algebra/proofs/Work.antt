@@ -2,9 +2,8 @@
 -- the next one of it. Assumes nothing.
 --     Worked g k s          a row that may be in work when the first k blocks are done
 --     Asked m e g r i       what block number i asks of an answer
-use Rattle.std.proofs.Common.{◌≡◌, ℕ, ◌+◌, ◌<◌, ◌≤◌, true, false, ◌⊎◌, ◌≢◌, List}
-use Rattle.std.proofs.Common.{length, Some, None, Option, sym, ap, ◌∙◌, subst, inl, inr}
-use Rattle.std.proofs.Common.{⊎_elim, arith}
+use Rattle.std.proofs.Common.{◌≡◌, ℕ, ◌+◌, ◌<◌, ◌≤◌, true, false, ◌⊎◌, ◌≢◌, List, length, Some, None, Option}
+use Rattle.std.proofs.Common.{sym, ap, ◌∙◌, subst, inl, inr, ⊎_elim, arith}
 use Rattle.std.proofs.lemmas.Bool.{both_ways, cases_lt, cases_eq}
 use Rattle.std.proofs.lemmas.List.{get_or_past}
 use Rattle.catalogue.specs.Entries.{Entry}
@@ -19,9 +18,8 @@ use Rattle.algebra.specs.Words.{reached, upto, Extended, Left}
 use Rattle.algebra.proofs.Listing.{fitting}
 use Rattle.algebra.proofs.Assignments.{among-open, among-open_back}
 use Rattle.algebra.proofs.Owners.{block_at, block_holds, block_owns}
-use Rattle.algebra.proofs.Phrases.{reached_part, reached_more, reached_above}
-use Rattle.algebra.proofs.Phrases.{reached_less-no}
-use Rattle.algebra.proofs.Phrases.{upto_kept, upto_is}
+use Rattle.algebra.proofs.Phrases.{reached_part, reached_more, reached_above, reached_less-no, upto_kept}
+use Rattle.algebra.proofs.Phrases.{upto_is}
 use Rattle.algebra.proofs.Fillings.{Filled}
 
 -- the variables of the required triples have values, those that belong to parts after k have none
