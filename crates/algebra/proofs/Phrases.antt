@@ -47,9 +47,6 @@ stored_terms m sound (t ∷ ts) r v held there =
 pub reached_part : (p k : ℕ) (o : Option ℕ) → o ≡ Some k → k ≤ p → reached p o ≡ true
 reached_part p k o e low = ap (reached p) e ∙ le-leb k p low
 
-pub reached_back : (p k : ℕ) (o : Option ℕ) → o ≡ Some k → reached p o ≡ true → k ≤ p
-reached_back p k o e h = leb-true k p (sym (ap (reached p) e) ∙ h)
-
 pub reached_more : (p : ℕ) (o : Option ℕ) → reached p o ≡ true → reached (p + 1) o ≡ true
 reached_more p None h = h
 reached_more p (Some k) h = let low = leb-true k p h in le-leb k (p + 1) (omega arith)
