@@ -3,7 +3,7 @@
 --     bgp m ts             the solutions of a basic graph pattern
 --     compatible r s       the rows agree at every variable to which both give a value
 --     merge r s            what either of them gives
---     join, diff, left_join
+--     join, diff, union, left_join    as the recommendation has them; its Filter is the library's filter
 use Rattle.std.specs.Prelude.{ℕ, Bool, true, false, cond, not, ◌&&◌, ◌||◌, List, [], ◌∷◌, ◌++◌, map, ◌==◌}
 use Rattle.std.specs.List.{filter, flat_map, list_all}
 use Rattle.query.specs.declared.pattern.TriplePattern.{TriplePattern}
@@ -47,6 +47,10 @@ abbrev pub diff : (Row → Bool) → List Row → List Row → List Row
 diff test left right =
     filter (λ r. list_all (λ s. not (compatible r s) || not (test (merge r s))) right) left
 
+-- the elements of both, where those that both have count twice
+abbrev pub union : {A : Type 0} → List A → List A → List A
+union left right = left ++ right
+
 -- the merges that pass the test, and besides them the rows of the first that have no such merge
 abbrev pub left_join : (Row → Bool) → List Row → List Row → List Row
-left_join test left right = filter test (join left right) ++ diff test left right
+left_join test left right = union (filter test (join left right)) (diff test left right)

@@ -10,7 +10,7 @@ use Rattle.query.specs.Parts.{Part, Group}
 use Rattle.triples.specs.Meaning.{Meaning}
 use Rattle.filter.specs.Rows.{Row}
 use Rattle.filter.specs.Filters.{passes}
-use Rattle.algebra.specs.Algebra.{bgp, left_join}
+use Rattle.algebra.specs.Algebra.{bgp, union, left_join}
 
 -- left joins with the blocks, one after the other; a block's filter is the condition of its join
 abbrev pub left_joins : Meaning → (ℕ → Entry) → List Row → List Part → List Row
@@ -35,7 +35,7 @@ numbered a rows = map (λ r. record { alternative = a; row = r }) rows
 -- the answers of the alternatives, of which the first has the number a
 abbrev pub answers_from : Meaning → (ℕ → Entry) → ℕ → List Group → List Answer
 answers_from m e a [] = []
-answers_from m e a (g ∷ gs) = numbered a (solutions m e g) ++ answers_from m e (a + 1) gs
+answers_from m e a (g ∷ gs) = union (numbered a (solutions m e g)) (answers_from m e (a + 1) gs)
 
 -- the answers of a query: those of all its alternatives
 abbrev pub answers_to : Meaning → (ℕ → Entry) → List Group → List Answer

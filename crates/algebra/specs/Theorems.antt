@@ -11,7 +11,7 @@ use Rattle.triples.specs.declared.triple.Triple.{Triple}
 use Rattle.triples.specs.Meaning.{Meaning, Sound}
 use Rattle.filter.specs.Rows.{Row}
 use Rattle.algebra.specs.Patterns.{blank, with_value, stored, open_variables}
-use Rattle.algebra.specs.Algebra.{bgp, compatible, merge, join, diff, left_join}
+use Rattle.algebra.specs.Algebra.{bgp, compatible, merge, join, diff, union, left_join}
 use Rattle.algebra.specs.Answers.{Answer, solutions, answers_to, same_row, times, times_answered}
 use Rattle.algebra.specs.Order.{Precedes, Ascending, no_group}
 use Rattle.algebra.specs.Admissions.{Admission, Completes, Lawful, every_term, possible, look_ahead, Matches}
@@ -83,8 +83,8 @@ WalkTakesTheLowest =
 
 -- a basic graph pattern has each row that gives its variables, and no others, values from 1 to the top under
 -- which its triples are all in the store, and has it once
-abbrev pub BasicPatterns : Meaning → Type 0
-BasicPatterns m = (ts : List TriplePattern) (r : Row)
+abbrev pub BasicPatterns : Type 0
+BasicPatterns = (m : Meaning) (ts : List TriplePattern) (r : Row)
     → (Completes m.top ts blank r → stored m ts r ≡ true → times r (bgp m ts) ≡ 1)
     × (0 < times r (bgp m ts) → Completes m.top ts blank r × (stored m ts r ≡ true))
 
@@ -93,7 +93,7 @@ BasicPatterns m = (ts : List TriplePattern) (r : Row)
 -- in a left join by the sum of filtered join and difference
 pub record Cardinalities (test : Row → Bool) (left right : List Row) (r : Row) : Type 0 where
   pub filtered : times r (filter test left) ≡ cond (test r) (times r left) 0
-  pub united : times r (left ++ right) ≡ times r left + times r right
+  pub united : times r (union left right) ≡ times r left + times r right
   pub joined : times r (join left right)
       ≡ total (λ s. total (λ t. cond (compatible s t && same_row r (merge s t)) 1 0) right) left
   pub lacking : times r (diff test left right)
@@ -113,7 +113,7 @@ AsOften rows others = (r : Row) → times r rows ≡ times r others
 -- what the operators make of left and right has every row as often as what they make of the others
 pub record MadeAsOften (test : Row → Bool) (left right other_left other_right : List Row) : Type 0 where
   pub filtered : AsOften (filter test left) (filter test other_left)
-  pub united : AsOften (left ++ right) (other_left ++ other_right)
+  pub united : AsOften (union left right) (union other_left other_right)
   pub joined : AsOften (join left right) (join other_left other_right)
   pub lacking : AsOften (diff test left right) (diff test other_left other_right)
   pub left_joined : AsOften (left_join test left right) (left_join test other_left other_right)
