@@ -20,9 +20,11 @@ basic_patterns m ts r =
       (λ c held. counted ∙ cond-true (stored m ts r) (times r rows) 0 held
           ∙ completes-once m.top ts blank r length-blank c),
       (λ h. ⊎_elim
-          (λ held. let same = cond-true (stored m ts r) (times r rows) 0 held in
-          (times-all (Completes m.top ts blank) r rows (completions-complete m.top ts blank length-blank)
-          (omega (arith, h, counted, same)), held))
+          (λ held. let same = cond-true (stored m ts r) (times r rows) 0 held in (
+            times-all (Completes m.top ts blank) r rows (completions-complete m.top ts blank length-blank)
+                (omega (arith, h, counted, same)),
+            held,
+          ))
           (λ f. let none = cond-false (stored m ts r) (times r rows) 0 f in
           absurd (omega (arith, h, counted, none)))
           (cases_Bool (stored m ts r))),

@@ -29,3 +29,4 @@ pub mod FromWords  -- an answer in words is listed
 pub mod BasicPatterns  -- a basic graph pattern in words
 pub mod Numbered  -- the answers of each alternative
 pub mod Solutions  -- the solutions of an alternative in words
+pub mod Completeness  -- the walk lists the answers

@@ -1,22 +1,27 @@
 -- What the look-ahead asks of a pattern: that some triple of the store matches it. Assumes nothing.
 --     look_ahead_in_words     a pattern is possible exactly if a triple of the store matches it
-use Rattle.std.proofs.Common.{◌≡◌, ℕ, ◌<◌, Bool, true, false, cond, ◌||◌, ◌≢◌, leb}
+use Rattle.std.proofs.Common.{◌≡◌, ℕ, ◌<◌, Bool, true, false, cond, not, ◌||◌, ◌≢◌, leb}
 use Rattle.std.proofs.Common.{List, [], ◌∷◌, map, length, refl, sym, ap, ◌∙◌, subst, inl, inr, ⊎_elim, arith}
 use Rattle.std.proofs.lemmas.Bool.{cases_Bool, cases_lt, cond-true, and_parts, and_from, or_left}
 use Rattle.std.proofs.lemmas.Bool.{or_right, or_from, cond_both, eqb-true, eq-eqb, leb-true, both_ways}
 use Rattle.std.proofs.lemmas.List.FromFn.{length-map-range_with_len, get_or-map-range_with_len}
-use Rattle.std.specs.List.{AllByRecursion, list_any}
+use Rattle.std.specs.List.{AllByRecursion, flat_map, list_all, list_any}
 use Rattle.query.specs.declared.place.Place.{Place}
 use Rattle.query.specs.declared.place.Place.TheVariants as place
 use Rattle.query.specs.declared.pattern.TriplePattern.{TriplePattern}
-use Rattle.query.specs.Lawful.{mentions, is_variable, lawful_triple}
-use Rattle.query.specs.Limits.{variables, most_variable, most_term, lawful_place}
+use Rattle.query.specs.Lawful.{mentions, is_variable, lawful_triple, lawful_triples, lawful_filter, lawful_part}
+use Rattle.query.specs.Lawful.{lawful_group, limited, shares, lawful}
+use Rattle.query.specs.Parts.{Part, Group}
+use Rattle.query.proofs.Limits.{group_limits, query_limits}
+use Rattle.query.specs.Limits.{variables, most_variable, most_term, most_in_part, within, lawful_place}
 use Rattle.triples.specs.declared.triple.Triple.{Triple}
-use Rattle.triples.specs.Meaning.{Term, Terms}
+use Rattle.triples.specs.Meaning.{Meaning, Sound, Term, Terms}
 use Rattle.filter.specs.Rows.{Row, none, value, has_value, number_at}
 use Rattle.algebra.specs.Patterns.{triple_under, stored, numbers, completions}
 use Rattle.algebra.specs.Admissions.{Completes, Allows, Matches}
-use Rattle.algebra.specs.Theorems.{LookAheadInWords}
+use Rattle.algebra.specs.Order.{parts_of}
+use Rattle.algebra.specs.Theorems.{PossibleInWords, LookAheadInWords, patterns_of}
+use Rattle.algebra.proofs.Lists.{all-append}
 use Rattle.algebra.proofs.Rows.{value-past, has_value-no}
 use Rattle.algebra.proofs.Assignments.{completions-complete}
 use Rattle.algebra.proofs.Pruning.{some-from_has_value, pattern-possible}
@@ -201,8 +206,8 @@ module _ (r : Row) (t : TriplePattern) (u : Triple) (matches : Matches r t u) wh
   }
 
 -- a pattern is possible exactly if some triple of the store matches it
-pub look_ahead_in_words : LookAheadInWords
-look_ahead_in_words m r t sound long lawful = (
+possible-matched : (m : Meaning) (t : TriplePattern) → Sound m → lawful_triple t ≡ true → PossibleInWords m t
+possible-matched m t sound lawful r long = (
   λ h. let f = any-found (Completes m.top (t ∷ []) r) (stored m (t ∷ [])) (completions m.top (t ∷ []) r)
       (completions-complete m.top (t ∷ []) r long) h in
       let held = and_parts (m.has (triple_under f.element t)) true f.passes in (
@@ -216,3 +221,44 @@ look_ahead_in_words m r t sound long lawful = (
       (and_from (m.has (triple_under (filled r t u) t)) true
       (ap m.has (triple_under-filled r t u matches lawful) ∙ has) refl),
 )
+
+-- the patterns of a query
+
+module _ (P : TriplePattern → Type 0) (lawful-has : (t : TriplePattern) → lawful_triple t ≡ true → P t) where
+  all-lawful : (ts : List TriplePattern) → list_all lawful_triple ts ≡ true → AllByRecursion P ts
+  all-lawful [] h = tt
+  all-lawful (t ∷ ts) h =
+      let parts = and_parts (lawful_triple t) (list_all lawful_triple ts) h in
+      (lawful-has t parts.0, all-lawful ts parts.1)
+
+  all-block_patterns : (bs : List Part) → list_all lawful_part bs ≡ true
+      → AllByRecursion P (flat_map (λ ts. ts) (map (λ b. b.triples) bs))
+  all-block_patterns [] h = tt
+  all-block_patterns (b ∷ bs) h =
+      let parts = and_parts (lawful_part b) (list_all lawful_part bs) h in
+      let triples = and_parts (lawful_triples 1 b.triples) (lawful_filter b.filter) parts.0 in
+      let each = and_parts (within 1 most_in_part (length b.triples)) (list_all lawful_triple b.triples)
+      triples.0 in
+      all-append P b.triples (flat_map (λ ts. ts) (map (λ b. b.triples) bs)) (all-lawful b.triples each.1)
+      (all-block_patterns bs parts.1)
+
+  all-group_patterns : (g : Group) → lawful_group g ≡ true
+      → AllByRecursion P (flat_map (λ ts. ts) (parts_of g))
+  all-group_patterns g h =
+      let l = group_limits g h in
+      let each = and_parts (within 0 most_in_part (length g.required)) (list_all lawful_triple g.required)
+      l.required in
+      all-append P g.required (flat_map (λ ts. ts) (map (λ b. b.triples) g.blocks))
+      (all-lawful g.required each.1) (all-block_patterns g.blocks l.blocks)
+
+  all-patterns : (q : List Group) → list_all lawful_group q ≡ true → AllByRecursion P (patterns_of q)
+  all-patterns [] h = tt
+  all-patterns (g ∷ q) h =
+      let parts = and_parts (lawful_group g) (list_all lawful_group q) h in
+      all-append P (flat_map (λ ts. ts) (parts_of g)) (patterns_of q) (all-group_patterns g parts.0)
+      (all-patterns q parts.1)
+
+pub look_ahead_in_words : (m : Meaning) (q : List Group) → Sound m → lawful q ≡ true → LookAheadInWords m q
+look_ahead_in_words m q sound h =
+    all-patterns (PossibleInWords m) (λ t. possible-matched m t sound) q
+    (query_limits q (and_parts (limited q) (not (list_any shares q)) h).0).groups

@@ -1,7 +1,7 @@
 -- What this crate proves of every query, store and catalogue. Assumes nothing.
 use Rattle.std.specs.Prelude.{◌≡◌, ℕ, ◌+◌, ◌<◌, ◌≤◌, Bool, true, cond, not, ◌&&◌, ◌||◌, List}
 use Rattle.std.specs.Prelude.{◌⊎◌, ◌∷◌, ◌++◌, length, slice_index_or}
-use Rattle.std.specs.List.{filter, flat_map, list_all}
+use Rattle.std.specs.List.{filter, flat_map, list_all, AllByRecursion}
 use Rattle.catalogue.specs.Entries.{Entry}
 use Rattle.query.specs.declared.pattern.TriplePattern.{TriplePattern}
 use Rattle.query.specs.Lawful.{total, lawful_triple}
@@ -13,7 +13,7 @@ use Rattle.filter.specs.Rows.{Row}
 use Rattle.algebra.specs.Patterns.{blank, with_value, stored, open_variables}
 use Rattle.algebra.specs.Algebra.{bgp, compatible, merge, join, diff, union, left_join}
 use Rattle.algebra.specs.Answers.{Answer, solutions, answers_to, same_row, times, times_answered}
-use Rattle.algebra.specs.Order.{Precedes, Ascending, no_group}
+use Rattle.algebra.specs.Order.{Precedes, Ascending, no_group, parts_of}
 use Rattle.algebra.specs.Admissions.{Admission, Completes, Lawful, every_term, possible, look_ahead, Matches}
 use Rattle.algebra.specs.Walk.{try, answers, admitted, walk_part, walk}
 use Rattle.algebra.specs.Words.{Answered}
@@ -64,13 +64,20 @@ pub record OnceInEach (m : Meaning) (e : ℕ → Entry) (q : List Group) : Type 
 abbrev pub PrunersLawful : Type 0
 PrunersLawful = (m : Meaning) → Lawful m (every_term m) × Lawful m (look_ahead m)
 
+-- the triple patterns of a query, in all its parts
+abbrev pub patterns_of : List Group → List TriplePattern
+patterns_of q = flat_map (λ g. flat_map (λ ts. ts) (parts_of g)) q
+
 -- what the look-ahead asks of a pattern, said without completions: it is possible exactly if some triple of
 -- the store matches it
-abbrev pub LookAheadInWords : Type 0
-LookAheadInWords = (m : Meaning) (r : Row) (t : TriplePattern) → Sound m → length r ≡ variables
-    → lawful_triple t ≡ true
+abbrev pub PossibleInWords : Meaning → TriplePattern → Type 0
+PossibleInWords m t = (r : Row) → length r ≡ variables
     → (possible m r t ≡ true → (u : Triple) × (m.has u ≡ true) × Matches r t u)
     × ((u : Triple) → m.has u ≡ true → Matches r t u → possible m r t ≡ true)
+
+-- so it is for every pattern of the query
+abbrev pub LookAheadInWords : Meaning → List Group → Type 0
+LookAheadInWords m q = AllByRecursion (PossibleInWords m) (patterns_of q)
 
 -- the part's walk takes the lowest variable without a value: each admitted value gives a try, and then the
 -- part's walk from the row with it
