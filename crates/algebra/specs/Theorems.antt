@@ -83,8 +83,8 @@ WalkTakesTheLowest =
 
 -- a basic graph pattern has each row that gives its variables, and no others, values from 1 to the top under
 -- which its triples are all in the store, and has it once
-abbrev pub BasicPatterns : Meaning → Type 0
-BasicPatterns m = (ts : List TriplePattern) (r : Row)
+abbrev pub BasicPatterns : Type 0
+BasicPatterns = (m : Meaning) (ts : List TriplePattern) (r : Row)
     → (Completes m.top ts blank r → stored m ts r ≡ true → times r (bgp m ts) ≡ 1)
     × (0 < times r (bgp m ts) → Completes m.top ts blank r × (stored m ts r ≡ true))
 
