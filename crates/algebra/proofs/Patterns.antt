@@ -50,7 +50,8 @@ stored-same m (t ∷ ts) r s same =
 
 number_at-term : (top : ℕ) (p : Place) (r : Row) (v : ℕ) → is_variable v p ≡ true
     → terms.Term top (number_at r p) → terms.Term top (value r v)
-number_at-term top (Variable w) r v here t = subst (λ x. terms.Term top (value r x)) (sym (eqb-true v w here)) t
+number_at-term top (Variable w) r v here t =
+    subst (λ x. terms.Term top (value r x)) (sym (eqb-true v w here)) t
 number_at-term top (Term x) r v here t = cc
 
 -- a variable of patterns that are in a store of terms has a term
