@@ -22,10 +22,10 @@ use Rattle.algebra.proofs.Rows.{length-blank, value-blank}
 use Rattle.algebra.proofs.Members.{Member, member_filter, member_flat_map, times_member, members_none}
 use Rattle.algebra.proofs.Members.{or_itself_fits, or_itself_none, drop_next}
 use Rattle.algebra.proofs.Owners.{block_at, block_holds, required_owns, required_holds}
-use Rattle.algebra.proofs.Patterns.{stored-same}
-use Rattle.algebra.proofs.Phrases.{stored_terms, reached_part, reached_more, reached_above, reached_next}
-use Rattle.algebra.proofs.Phrases.{reached_next-no, reached_less-no, reached_first-no, length-upto, upto_kept}
-use Rattle.algebra.proofs.Phrases.{upto_part, upto_dropped, upto_is, upto_past}
+use Rattle.algebra.proofs.Patterns.{stored-same, stored-terms}
+use Rattle.algebra.proofs.Phrases.{reached_part, reached_more, reached_above, reached_next, reached_next-no}
+use Rattle.algebra.proofs.Phrases.{reached_less-no, reached_first-no, length-upto, upto_kept, upto_part}
+use Rattle.algebra.proofs.Phrases.{upto_dropped, upto_is, upto_past}
 use Rattle.algebra.proofs.Fillings.{Filled, fitting_filled, filled_fitting, filled_bgp}
 use Rattle.algebra.proofs.Work.{Worked, Asked, made_by, cases_part, term_some, filled_kept, filled_from}
 
@@ -73,7 +73,7 @@ module _ (m : Meaning) (e : ℕ → Entry) (g : Group) (r : Row) (a : Answered m
           long = length-upto g k r;
           later = upto_dropped g k r;
           required = λ v first none_there. term_some m.top (value r v)
-              (stored_terms m sound g.required r v a.required (required_holds g v first))
+              (stored-terms m sound g.required r v a.required (required_holds g v first))
               (sym (upto_part g k r v 0 a.long first (omega arith)) ∙ none_there);
         }
 
@@ -97,7 +97,7 @@ module _ (m : Meaning) (e : ℕ → Entry) (g : Group) (r : Row) (a : Answered m
         let (f, fits) = fitting_filled m e (block_at g k) s u w.long h in
         left.nothing u (record {
           long = f.long ∙ w.long;
-          own = λ v own. stored_terms m sound (block_at g k).triples u v fits.triples
+          own = λ v own. stored-terms m sound (block_at g k).triples u v fits.triples
               ((block_holds g k v own).1);
           others = λ v other. filled_kept g k s w apart low m.top u f v other ∙ sym (upto_others k v other);
         }) fits)))
@@ -125,7 +125,7 @@ module _ (m : Meaning) (e : ℕ → Entry) (g : Group) (r : Row) (a : Answered m
           long = length-upto g 0 r ∙ sym length-blank;
           given = λ v h. let o = among-open_back g.required blank v h in
               subst (Term m.top) (sym (upto_part g 0 r v 0 a.long (required_owns g v o.held) (omega arith)))
-              (stored_terms m sound g.required r v a.required o.held);
+              (stored-terms m sound g.required r v a.required o.held);
           kept = λ v shut. ⊎_elim
               (λ first. ⊎_elim
               (λ small. absurd (shut (among-open g.required blank v small (required_holds g v first)

@@ -1,11 +1,13 @@
 -- Laws of triple patterns under rows. Assumes nothing.
-use Rattle.std.proofs.Common.{◌≡◌, ℕ, Bool, true, not, ◌&&◌, ◌||◌, List, [], ◌∷◌, refl, ap, ap₂, ◌∙◌, eq-eqb}
-use Rattle.std.proofs.lemmas.Bool.{or_left, or_right}
+use Rattle.std.proofs.Common.{sym, subst, ⊎_elim, ◌≡◌, ℕ, Bool, true, not, ◌&&◌, ◌||◌, List, [], ◌∷◌, refl}
+use Rattle.std.proofs.Common.{ap, ap₂, ◌∙◌, eq-eqb}
+use Rattle.std.proofs.lemmas.Bool.{and_parts, or_cases, eqb-true, or_left, or_right}
 use Rattle.std.proofs.Math.Bool.{and-true}
 use Rattle.query.specs.declared.place.Place.{Place}
 use Rattle.query.specs.declared.place.Place.TheVariants.{Variable, Term}
 use Rattle.query.specs.declared.pattern.TriplePattern.{TriplePattern}
 use Rattle.query.specs.Lawful.{is_variable, mentions}
+use Rattle.triples.specs.Meaning as terms
 use Rattle.triples.specs.Meaning.{Meaning}
 use Rattle.filter.specs.Rows.{Row, value, has_value, number_at}
 use Rattle.algebra.specs.Patterns.{blank, triple_under, stored, numbers, open_variables, variables_in}
@@ -45,6 +47,28 @@ stored-same m (t ∷ ts) r s same =
     ap₂ (λ u b. m.has u && b)
     (triple_under-same t r s (λ v h. same v (or_left (in_triple v t) (mentions v ts) h)))
     (stored-same m ts r s (λ v h. same v (or_right (in_triple v t) (mentions v ts) h)))
+
+number_at-term : (top : ℕ) (p : Place) (r : Row) (v : ℕ) → is_variable v p ≡ true
+    → terms.Term top (number_at r p) → terms.Term top (value r v)
+number_at-term top (Variable w) r v here t =
+    subst (λ x. terms.Term top (value r x)) (sym (eqb-true v w here)) t
+number_at-term top (Term x) r v here t = cc
+
+-- a variable of patterns that are in a store of terms has a term
+pub stored-terms : (m : Meaning) → terms.Sound m → (ts : List TriplePattern) (r : Row) (v : ℕ)
+    → stored m ts r ≡ true → mentions v ts ≡ true → terms.Term m.top (value r v)
+stored-terms m sound [] r v held there = cc
+stored-terms m sound (t ∷ ts) r v held there =
+    let (first, rest) = and_parts (m.has (triple_under r t)) (stored m ts r) held in
+    let three = sound.terms (triple_under r t) first in
+    ⊎_elim
+    (λ here. ⊎_elim (λ s. number_at-term m.top t.subject r v s three.subject)
+    (λ others. ⊎_elim (λ p. number_at-term m.top t.property r v p three.property)
+    (λ o. number_at-term m.top t.object r v o three.object)
+    (or_cases (is_variable v t.property) (is_variable v t.object) others))
+    (or_cases (is_variable v t.subject) (is_variable v t.property || is_variable v t.object) here))
+    (stored-terms m sound ts r v rest)
+    (or_cases (in_triple v t) (mentions v ts) there)
 
 -- open_variables
 

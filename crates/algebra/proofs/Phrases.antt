@@ -1,46 +1,22 @@
 -- Laws of what the words on an answer name: the variables reached, and a row with the values of the first
 -- parts alone. Assumes nothing.
-use Rattle.std.proofs.Common.{refl, ◌≡◌, ℕ, ◌+◌, ◌<◌, ◌≤◌, true, false, cond, ◌||◌, ◌⊎◌, List, [], ◌∷◌, zero}
-use Rattle.std.proofs.Common.{suc, length, Some, None, Option, sym, ap, ◌∙◌, subst, inl, inr, ⊎_elim, arith}
-use Rattle.std.proofs.lemmas.Bool.{both_ways, cases_Bool, cases_lt, cond-true, cond-false, and_parts}
-use Rattle.std.proofs.lemmas.Bool.{or_cases, leb-true, le-leb, eqb-true, lt-leb}
+use Rattle.std.proofs.Common.{refl, ◌≡◌, ℕ, ◌+◌, ◌<◌, ◌≤◌, true, false, cond, ◌⊎◌, zero, suc, length, Some}
+use Rattle.std.proofs.Common.{None, Option, sym, ap, ◌∙◌, subst, inl, inr, ⊎_elim, arith}
+use Rattle.std.proofs.lemmas.Bool.{both_ways, cases_Bool, cases_lt, cond-true, cond-false, leb-true, le-leb}
+use Rattle.std.proofs.lemmas.Bool.{lt-leb}
 use Rattle.std.proofs.lemmas.List.{get_or_past, ext_get_or}
 use Rattle.std.proofs.lemmas.List.FromFn.{get_or-map-range_with_len, length-map-range_with_len}
-use Rattle.query.specs.declared.pattern.TriplePattern.{TriplePattern}
-use Rattle.query.specs.declared.place.Place.{Place}
+use Rattle.query.specs.declared.pattern.TriplePattern.{}
+use Rattle.query.specs.declared.place.Place.{}
 use Rattle.query.specs.declared.place.Place.TheVariants as places
-use Rattle.query.specs.Lawful.{is_variable, mentions}
+use Rattle.query.specs.Lawful.{}
 use Rattle.query.specs.Limits.{variables}
 use Rattle.query.specs.Parts.{Group}
-use Rattle.triples.specs.Meaning.{Meaning, Term, Sound}
-use Rattle.filter.specs.Rows.{Row, none, value, number_at}
-use Rattle.algebra.specs.Patterns.{stored, triple_under}
+use Rattle.triples.specs.Meaning.{}
+use Rattle.filter.specs.Rows.{Row, none, value}
+use Rattle.algebra.specs.Patterns.{}
 use Rattle.algebra.specs.Order.{part_of}
 use Rattle.algebra.specs.Words.{reached, upto}
-
--- stored
-
-variable_number : (top : ℕ) (r : Row) (v : ℕ) (p : Place) → is_variable v p ≡ true → Term top (number_at r p)
-    → Term top (value r v)
-variable_number top r v (places.Variable w) h t = subst (λ x. Term top (value r x)) (sym (eqb-true v w h)) t
-variable_number top r v (places.Term x) h t = cc
-
--- a variable of triples that are in the store has a term
-pub stored_terms : (m : Meaning) → Sound m → (ts : List TriplePattern) (r : Row) (v : ℕ)
-    → stored m ts r ≡ true → mentions v ts ≡ true → Term m.top (value r v)
-stored_terms m sound [] r v held there = cc
-stored_terms m sound (t ∷ ts) r v held there =
-    let (first, rest) = and_parts (m.has (triple_under r t)) (stored m ts r) held in
-    let terms = sound.terms (triple_under r t) first in
-    ⊎_elim
-    (λ here. ⊎_elim (λ s. variable_number m.top r v t.subject s terms.subject)
-    (λ others. ⊎_elim (λ p. variable_number m.top r v t.property p terms.property)
-    (λ o. variable_number m.top r v t.object o terms.object)
-    (or_cases (is_variable v t.property) (is_variable v t.object) others))
-    (or_cases (is_variable v t.subject) (is_variable v t.property || is_variable v t.object) here))
-    (stored_terms m sound ts r v rest)
-    (or_cases (is_variable v t.subject || (is_variable v t.property || is_variable v t.object))
-    (mentions v ts) there)
 
 -- reached
 

@@ -23,8 +23,8 @@ use Rattle.algebra.proofs.Rows.{length-blank, value-blank}
 use Rattle.algebra.proofs.Members.{Member, member_filter_back, member_flat_map_back, member_times}
 use Rattle.algebra.proofs.Members.{or_itself_member, drop_next}
 use Rattle.algebra.proofs.Owners.{block_at, block_holds, required_owns, required_holds}
-use Rattle.algebra.proofs.Patterns.{stored-same}
-use Rattle.algebra.proofs.Phrases.{stored_terms, reached_part, upto_part, upto_is}
+use Rattle.algebra.proofs.Patterns.{stored-same, stored-terms}
+use Rattle.algebra.proofs.Phrases.{reached_part, upto_part, upto_is}
 use Rattle.algebra.proofs.Fillings.{Filled, fitting_filled, filled_fitting, bgp_filled}
 use Rattle.algebra.proofs.Work.{Worked, Asked, made_by, term_some, own_free, worked_next, upto_before}
 use Rattle.algebra.proofs.Work.{filled_kept, filled_from}
@@ -64,7 +64,7 @@ module _ (m : Meaning) (e : ℕ → Entry) (g : Group) (sound : Sound m) (apart 
       let extended : Extended m e g (k + 1) (block_at g k) r = record {
         values = λ v own. subst (Term m.top) (sym (ap (λ u. value u v) on.before)
             ∙ upto_part g (k + 1) r v (k + 1) on.long own (omega arith))
-            (stored_terms m sound (block_at g k).triples t v fits.triples ((block_holds g k v own).1));
+            (stored-terms m sound (block_at g k).triples t v fits.triples ((block_holds g k v own).1));
         fits = subst (Fits m e (block_at g k)) (sym on.before) fits;
       } in
       record {
@@ -129,7 +129,7 @@ module _ (m : Meaning) (e : ℕ → Entry) (g : Group) (sound : Sound m) (apart 
             (reached_part 0 0 (part_of g v) (required_owns g v o.held) (omega arith)))
             ∙ value-blank v;
         required = λ v first. term_some m.top (value s v)
-            (stored_terms m sound g.required s v held (required_holds g v first));
+            (stored-terms m sound g.required s v held (required_holds g v first));
       }
 
   answered_onward : (s r : Row) → stored m g.required s ≡ true → Onward m e g 0 s r

@@ -21,7 +21,8 @@ reached p (Some k) = nat_le k p
 abbrev pub upto : Group → ℕ → Row → Row
 upto g p r = map (λ v. cond (reached p (part_of g v)) (value r v) none) numbers
 
--- what block b, part p of the alternative, asks of a row: its triples are in the store, and its filter is true
+-- what block b, part p of the alternative, asks of a row: its triples are in the store, and its filter is
+-- true
 pub record Fits (m : Meaning) (e : ℕ → Entry) (b : Part) (r : Row) : Type 0 where
   pub triples : stored m b.triples r ≡ true
   pub filter : passes e b.filter r ≡ true
