@@ -1,11 +1,7 @@
 -- A basic graph pattern in words. Assumes nothing.
-use Rattle.std.proofs.Common.{◌≡◌, ℕ, ◌<◌, true, cond, List, ap, ◌∙◌, ⊎_elim, subst, arith}
+use Rattle.std.proofs.Common.{◌∙◌, ⊎_elim, arith}
 use Rattle.std.proofs.lemmas.Bool.{cases_Bool, cond-true, cond-false}
-use Rattle.query.specs.declared.pattern.TriplePattern.{TriplePattern}
-use Rattle.triples.specs.Meaning.{Meaning}
-use Rattle.filter.specs.Rows.{Row}
 use Rattle.algebra.specs.Admissions.{Completes}
-use Rattle.algebra.specs.Algebra.{bgp}
 use Rattle.algebra.specs.Answers.{times}
 use Rattle.algebra.specs.Patterns.{blank, stored, completions}
 use Rattle.algebra.specs.Theorems.{BasicPatterns}

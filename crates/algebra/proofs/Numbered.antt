@@ -1,14 +1,14 @@
 -- How often an answer is among the answers of a query: as often as its row is among the solutions of its
 -- alternative. Assumes nothing.
 use Rattle.std.proofs.Common.{◌≡◌, ℕ, zero, suc, ◌+◌, ◌<◌, ◌≤◌, Bool, true, false, cond, ◌&&◌, List, [], ◌∷◌}
-use Rattle.std.proofs.Common.{◌++◌, map, length, get_or, eqb, refl, sym, ap, ◌∙◌, subst, arith}
+use Rattle.std.proofs.Common.{◌++◌, length, get_or, eqb, refl, sym, ap, ◌∙◌, subst, arith}
 use Rattle.std.proofs.lemmas.Bool.{eq-eqb, ne_eqb}
 use Rattle.catalogue.specs.Entries.{Entry}
 use Rattle.query.specs.Lawful.{total, lawful}
 use Rattle.query.specs.Parts.{Group}
 use Rattle.triples.specs.Meaning.{Meaning}
 use Rattle.filter.specs.Rows.{Row}
-use Rattle.algebra.specs.Answers.{Answer, numbered, answers_from, answers_to, solutions, same_answer}
+use Rattle.algebra.specs.Answers.{Answer, numbered, answers_from, solutions, same_answer}
 use Rattle.algebra.specs.Answers.{same_row, times, times_answered}
 use Rattle.algebra.specs.Order.{no_group}
 use Rattle.algebra.specs.Theorems.{OnceInEach}

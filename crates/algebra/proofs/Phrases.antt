@@ -8,7 +8,6 @@ use Rattle.std.proofs.lemmas.List.{get_or_past, ext_get_or}
 use Rattle.std.proofs.lemmas.List.FromFn.{get_or-map-range_with_len, length-map-range_with_len}
 use Rattle.query.specs.declared.pattern.TriplePattern.{}
 use Rattle.query.specs.declared.place.Place.{}
-use Rattle.query.specs.declared.place.Place.TheVariants as places
 use Rattle.query.specs.Lawful.{}
 use Rattle.query.specs.Limits.{variables}
 use Rattle.query.specs.Parts.{Group}

@@ -2,7 +2,7 @@
 --     Answer                 the number of an alternative, from 0, and a row
 --     solutions m e g        the solutions of the alternative g over the store m, under the entries e
 --     answers_to m e q       the answers of the query q
-use Rattle.std.specs.Prelude.{ℕ, ◌+◌, Bool, ◌&&◌, List, [], ◌∷◌, ◌++◌, map, ◌==◌}
+use Rattle.std.specs.Prelude.{ℕ, ◌+◌, Bool, ◌&&◌, List, [], ◌∷◌, map, ◌==◌}
 use Rattle.std.specs.List.{filter, count_by}
 use Rattle.std.specs.Str.{bytes_eq}
 use Rattle.catalogue.specs.Entries.{Entry}

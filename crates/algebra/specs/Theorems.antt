@@ -1,14 +1,14 @@
 -- What this crate proves of every query, store and catalogue. Assumes nothing.
 use Rattle.std.specs.Prelude.{◌≡◌, ℕ, ◌+◌, ◌<◌, ◌≤◌, Bool, true, cond, not, ◌&&◌, ◌||◌, List}
-use Rattle.std.specs.Prelude.{◌⊎◌, ◌∷◌, ◌++◌, length, slice_index_or}
+use Rattle.std.specs.Prelude.{◌⊎◌, ◌∷◌, length, slice_index_or}
 use Rattle.std.specs.List.{filter, flat_map, list_all, AllByRecursion}
 use Rattle.catalogue.specs.Entries.{Entry}
 use Rattle.query.specs.declared.pattern.TriplePattern.{TriplePattern}
-use Rattle.query.specs.Lawful.{total, lawful_triple}
+use Rattle.query.specs.Lawful.{total}
 use Rattle.query.specs.Limits.{variables}
 use Rattle.query.specs.Parts.{Group}
 use Rattle.triples.specs.declared.triple.Triple.{Triple}
-use Rattle.triples.specs.Meaning.{Meaning, Sound}
+use Rattle.triples.specs.Meaning.{Meaning}
 use Rattle.filter.specs.Rows.{Row}
 use Rattle.algebra.specs.Patterns.{blank, with_value, stored, open_variables}
 use Rattle.algebra.specs.Algebra.{bgp, compatible, merge, join, diff, union, left_join}
