@@ -1,4 +1,6 @@
 //! The truth of a filter on a row: true, false or error.
 #![tactic(auto)]
 
+mod comparisons;
+mod term;
 pub mod truth;

@@ -1,0 +1,2 @@
+-- Read in this order.
+pub mod Agreement  -- truths that agree up to a number
