@@ -1,2 +1,3 @@
 -- Read in this order.
+pub mod Filters  -- lawful filters, and the truths of their nodes
 pub mod Agreement  -- truths that agree up to a number

@@ -5,3 +5,4 @@ pub mod Comparing  -- how two terms compare
 pub mod Terms  -- terms as they are held
 pub mod Filters  -- the truth of a filter on a row
 pub mod Comparisons  -- comparisons read off a catalogue
+pub mod Calls  -- what the calls answer

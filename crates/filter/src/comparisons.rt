@@ -18,7 +18,7 @@ pub(crate) const MOST_NODES: usize = 16;
 pub(crate) const NONE: u32 = 0;
 
 /// What stands at the place under the row: the variable's value, or the term.
-fn number_at(place: Place, row: &[u32; 16]) -> u32
+pub(crate) fn number_at(place: Place, row: &[u32; 16]) -> u32
     ensures { result ≡ number_at row.now place }
 {
     match place {

@@ -2,5 +2,7 @@
 #![tactic(auto)]
 
 mod comparisons;
+mod evaluate;
+pub mod parts;
 mod term;
 pub mod truth;

@@ -1,0 +1,62 @@
+//! The truths of the filters of a query's parts.
+ghost use Rattle.std.specs.Prelude.{◌≡◌, true};
+ghost use Rattle.query.specs.Lawful.{lawful_filter};
+ghost use Rattle.query.specs.Shape.{shape};
+ghost use Rattle.filter.specs.Calls.{group_truth, block_truth};
+ghost use Rattle.filter.specs.Filters.{filter_truth};
+
+use crate::comparisons::comparisons;
+use crate::evaluate::evaluate;
+use crate::truth::Truth;
+use catalogue::catalogue::Catalogue;
+use query::node::Node;
+use query::query::Query;
+
+/// The truth of the group filter of alternative number `alternative`, counted from 0, on the row; none where
+/// the query has no such alternative. The row has a value for each variable, and 0 where it has none. The
+/// catalogue says and keeps what it did.
+pub fn group_truth<C: Catalogue>(
+    query: &Query,
+    alternative: usize,
+    row: &[u32; 16],
+    catalogue: &mut C,
+) -> Option<Truth>
+    ensures answer { result ≡ group_truth (C.Catalogue.entries catalogue.old) row.now (shape query.now)
+        alternative }
+    ensures same { C.Catalogue.entries catalogue.new ≡ C.Catalogue.entries catalogue.old }
+    ensures kept { C.Catalogue.kept catalogue.new ≡ C.Catalogue.kept catalogue.old }
+{
+    let alternative = query.alternatives().get(alternative)?;
+    Some(filter_truth(alternative.filter.as_slice(), row, catalogue))
+}
+
+/// The truth of the filter of block number `block` of alternative number `alternative`, both counted from 0,
+/// on the row; none where the query has no such alternative, or that one no such block. The row has a value
+/// for each variable, and 0 where it has none. The catalogue says and keeps what it did.
+pub fn block_truth<C: Catalogue>(
+    query: &Query,
+    alternative: usize,
+    block: usize,
+    row: &[u32; 16],
+    catalogue: &mut C,
+) -> Option<Truth>
+    ensures answer { result ≡ block_truth (C.Catalogue.entries catalogue.old) row.now (shape query.now)
+        alternative block }
+    ensures same { C.Catalogue.entries catalogue.new ≡ C.Catalogue.entries catalogue.old }
+    ensures kept { C.Catalogue.kept catalogue.new ≡ C.Catalogue.kept catalogue.old }
+{
+    let alternative = query.alternatives().get(alternative)?;
+    let block = alternative.blocks.get(block)?;
+    Some(filter_truth(block.filter.as_slice(), row, catalogue))
+}
+
+/// The truth of the filter with these nodes on the row.
+fn filter_truth<C: Catalogue>(nodes: &[Node], row: &[u32; 16], catalogue: &mut C) -> Truth
+    requires { lawful_filter nodes.now ≡ true }
+    ensures answer { result ≡ filter_truth (C.Catalogue.entries catalogue.old) row.now nodes.now }
+    ensures same { C.Catalogue.entries catalogue.new ≡ C.Catalogue.entries catalogue.old }
+    ensures kept { C.Catalogue.kept catalogue.new ≡ C.Catalogue.kept catalogue.old }
+{
+    let comparisons = comparisons(nodes, row, catalogue);
+    evaluate(nodes, &comparisons, row)
+}
