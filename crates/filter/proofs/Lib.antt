@@ -1,3 +1,4 @@
 -- Read in this order.
 pub mod Filters  -- lawful filters, and the truths of their nodes
 pub mod Agreement  -- truths that agree up to a number
+pub mod Lawful  -- the filters of a query's parts are lawful

@@ -1,5 +1,4 @@
 -- Terms as they are held while a filter is evaluated. Assumes nothing.
-use Rattle.std.specs.Prelude.{ℕ}
 use Rattle.catalogue.specs.Entries.{Entry}
 use Rattle.filter.specs.Comparing.{Known}
 use Rattle.filter.specs.declared.term.Term.{Term}

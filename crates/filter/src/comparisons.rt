@@ -44,7 +44,10 @@ fn terms_at<C: Catalogue>(
     if first == NONE || second == NONE {
         return None;
     }
-    Some((Term::look_up(first, catalogue), Term::look_up(second, catalogue)))
+    Some((
+        Term::look_up(first, catalogue),
+        Term::look_up(second, catalogue),
+    ))
 }
 
 /// How what the node compares compares; an error where a variable there has no value, and where the node

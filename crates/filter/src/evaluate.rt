@@ -12,12 +12,7 @@ use query::node::Node;
 use query::place::Place;
 
 /// The truth of the node, by its comparison and by the truths of the nodes that it names.
-fn node_truth(
-    node: Node,
-    compared: Truth,
-    row: &[u32; 16],
-    truths: &[Truth; MOST_NODES],
-) -> Truth
+fn node_truth(node: Node, compared: Truth, row: &[u32; 16], truths: &[Truth; MOST_NODES]) -> Truth
     requires { lawful_node most_in_part node ≡ true }
     ensures { (entries : ℕ → Entry) → compared ≡ comparison entries row.now node
         → result ≡ node_truth entries row.now truths.now node }
@@ -32,11 +27,7 @@ fn node_truth(
 }
 
 /// The truths of the nodes, each at its number: those of the nodes below the last, then the last from them.
-fn truths(
-    nodes: &[Node],
-    comparisons: &[Truth; MOST_NODES],
-    row: &[u32; 16],
-) -> [Truth; MOST_NODES]
+fn truths(nodes: &[Node], comparisons: &[Truth; MOST_NODES], row: &[u32; 16]) -> [Truth; MOST_NODES]
     requires { lawful_filter nodes.now ≡ true }
     ensures { (entries : ℕ → Entry)
         → Agree (length nodes.now) comparisons.now (map (comparison entries row.now) nodes.now)
@@ -52,11 +43,7 @@ fn truths(
 }
 
 /// The truth of the filter: that of its last node; without nodes it is true.
-pub(crate) fn evaluate(
-    nodes: &[Node],
-    comparisons: &[Truth; MOST_NODES],
-    row: &[u32; 16],
-) -> Truth
+pub(crate) fn evaluate(nodes: &[Node], comparisons: &[Truth; MOST_NODES], row: &[u32; 16]) -> Truth
     requires { lawful_filter nodes.now ≡ true }
     ensures { (entries : ℕ → Entry)
         → Agree (length nodes.now) comparisons.now (map (comparison entries row.now) nodes.now)
