@@ -6,3 +6,4 @@ pub mod Terms  -- terms as they are held
 pub mod Filters  -- the truth of a filter on a row
 pub mod Comparisons  -- comparisons read off a catalogue
 pub mod Calls  -- what the calls answer
+pub mod Theorems  -- what this crate proves

@@ -5,4 +5,5 @@ mod comparisons;
 mod evaluate;
 pub mod parts;
 mod term;
+pub mod theorems;
 pub mod truth;
