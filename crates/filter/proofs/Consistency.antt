@@ -1,17 +1,17 @@
 -- The truths of a lawful filter's nodes are consistent, and the only ones. Assumes nothing.
-use Rattle.std.proofs.Common.{◌≡◌, ℕ, zero, suc, ◌+◌, ◌<◌, true, ◌&&◌, List, [], ◌∷◌, ◌++◌, length, get_or, sym, ap}
-use Rattle.std.proofs.Common.{◌∙◌, refl, subst, ⊎_elim, arith}
+use Rattle.std.proofs.Common.{◌≡◌, ℕ, zero, suc, ◌+◌, ◌<◌, true, List, [], ◌∷◌, ◌++◌, length, get_or, sym, ap}
+use Rattle.std.proofs.Common.{◌∙◌, refl, ⊎_elim, arith}
 use Rattle.std.proofs.lemmas.Bool.{and_parts, cases_lt}
 use Rattle.std.proofs.lemmas.List.{ext_get_or, get_or_append_left, get_or_at, length_push}
 use Rattle.catalogue.specs.Entries.{Entry}
 use Rattle.query.specs.declared.node.Node.{Node}
-use Rattle.query.specs.Lawful.{lawful_node, lawful_nodes, lawful_filter}
+use Rattle.query.specs.Lawful.{lawful_node, lawful_nodes}
 use Rattle.query.specs.Limits.{within, most_in_part}
 use Rattle.filter.specs.declared.truth.Truth.{Truth}
 use Rattle.filter.specs.declared.truth.Truth.TheVariants.{Error}
 use Rattle.filter.specs.Rows.{Row}
 use Rattle.filter.specs.Comparisons.{Agree}
-use Rattle.filter.specs.Filters.{truth_at, node_truth, truths_onto, truths_of, Consistent}
+use Rattle.filter.specs.Filters.{truth_at, node_truth, truths_onto, truths_of}
 use Rattle.filter.specs.Theorems.{TruthsAreTheOnly}
 use Rattle.filter.proofs.Filters.{node_truth_like, length-truths_onto}
 

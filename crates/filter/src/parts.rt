@@ -2,7 +2,7 @@
 ghost use Rattle.std.specs.Prelude.{◌≡◌, true};
 ghost use Rattle.query.specs.Lawful.{lawful_filter};
 ghost use Rattle.query.specs.Shape.{shape};
-ghost use Rattle.filter.specs.Calls.{group_truth, block_truth};
+ghost use Rattle.filter.specs.Calls.{group_filter, block_filter, truth_on, Answered};
 ghost use Rattle.filter.specs.Filters.{filter_truth};
 
 use crate::comparisons::comparisons;
@@ -21,8 +21,10 @@ pub fn group_truth<C: Catalogue>(
     row: &[u32; 16],
     catalogue: &mut C,
 ) -> Option<Truth>
-    ensures answer { result ≡ group_truth (C.Catalogue.entries catalogue.old) row.now (shape query.now)
-        alternative }
+    ensures answer { result ≡ truth_on (C.Catalogue.entries catalogue.old) row.now
+        (group_filter (shape query.now) alternative) }
+    ensures law { Answered (C.Catalogue.entries catalogue.old) row.now
+        (group_filter (shape query.now) alternative) result }
     ensures same { C.Catalogue.entries catalogue.new ≡ C.Catalogue.entries catalogue.old }
     ensures kept { C.Catalogue.kept catalogue.new ≡ C.Catalogue.kept catalogue.old }
 {
@@ -40,8 +42,10 @@ pub fn block_truth<C: Catalogue>(
     row: &[u32; 16],
     catalogue: &mut C,
 ) -> Option<Truth>
-    ensures answer { result ≡ block_truth (C.Catalogue.entries catalogue.old) row.now (shape query.now)
-        alternative block }
+    ensures answer { result ≡ truth_on (C.Catalogue.entries catalogue.old) row.now
+        (block_filter (shape query.now) alternative block) }
+    ensures law { Answered (C.Catalogue.entries catalogue.old) row.now
+        (block_filter (shape query.now) alternative block) result }
     ensures same { C.Catalogue.entries catalogue.new ≡ C.Catalogue.entries catalogue.old }
     ensures kept { C.Catalogue.kept catalogue.new ≡ C.Catalogue.kept catalogue.old }
 {

@@ -1,44 +1,38 @@
-use Rattle.std.proofs.Common.{Some, map, sym, ap, ◌∙◌}
-use Rattle.std.specs.List.{slice_get}
-use Rattle.std.specs.Option.{option_map, option_and_then}
-use Rattle.query.specs.Lawful.{lawful_filter}
+use Rattle.std.proofs.Common.{◌≡◌, Some, map, sym, ap, ◌∙◌}
 use Rattle.query.specs.Parts.{part_of, group_of}
 use Rattle.query.specs.Shape.{shape}
-use Rattle.filter.specs.Filters.{filter_truth}
-use Rattle.filter.proofs.Lawful.{Stands, StandsIn, stands_at, alternative_lawful, block_lawful}
+use Rattle.filter.specs.Calls.{block_filter, truth_on}
+use Rattle.filter.proofs.Calls.{answered}
+use Rattle.filter.proofs.Lawful.{slice_get-made, block_filter-at, block_filter_lawful}
 use Rattle.filter.proofs.parts.block_truth.Goals as goal
-use Rattle.filter.proofs.parts.block_truth.Goals.{In_ok-alternative, In_ok-block}
+use Rattle.filter.proofs.parts.block_truth.Goals.{After-as_slice}
 
--- the alternative stands at its number in the query
-stands : (g : _) (c : In_ok-alternative g)
-    → Stands group_of c.alternatives.result.now (shape c.args.query.now) c.args.alternative
-    c.in_ok-alternative.alternative.now
-stands g c =
-    let found = c.in_ok-alternative.ensures.lookup in
-    record { made = c.alternatives.ensures; here = found.3.0; is = found.1 }
-
--- the block stands at its number in the alternative
-stands_in : (g : _) (c : In_ok-block g)
-    → StandsIn c.in_ok-alternative.alternative.now c.deref.result.now c.args.block c.in_ok-block.block.now
-stands_in g c =
-    let found = c.in_ok-block.ensures.lookup in
-    record { made = ap (map part_of) c.deref.ensures.value; here = found.3.0; is = found.1 }
+-- the nodes that are evaluated are the filter's
+found : (g : _) (c : After-as_slice g)
+    → block_filter (shape c.args.query.now) c.args.alternative c.args.block ≡ Some c.as_slice.result.now
+found g c =
+    let at = c.in_ok-alternative.ensures.lookup in
+    let in_it = c.in_ok-block.ensures.lookup in
+    block_filter-at (shape c.args.query.now) c.args.alternative c.args.block
+    (group_of c.in_ok-alternative.alternative.now) (part_of c.in_ok-block.block.now)
+    (slice_get-made group_of _ _ _ _ c.alternatives.ensures at.3.0 at.1)
+    (slice_get-made part_of _ _ _ _ (ap (map part_of) c.deref.ensures.value) in_it.3.0 in_it.1)
+    ∙ ap Some (sym c.as_slice.ensures.value)
 
 pub filter_truth-requires : goal.filter_truth-requires
 filter_truth-requires g c =
-    let at = goal.at.filter_truth-requires g c in
-    let a = c.in_ok-alternative.alternative.now in
-    let law = alternative_lawful c.args.query.now _ _ a (stands g at.In_ok-alternative) in
-    ap lawful_filter c.as_slice.ensures.value
-    ∙ block_lawful a _ _ c.in_ok-block.block.now law (stands_in g at.In_ok-block)
+    block_filter_lawful c.args.query.now c.args.alternative c.args.block c.as_slice.result.now
+    (found g (goal.at.filter_truth-requires g c).After-as_slice)
 
 pub returns-clause-answer : goal.returns-clause-answer
 returns-clause-answer g c =
-    let at = goal.at.returns-clause-answer g c in
     let entries = g.C.Catalogue.entries c.args.catalogue.now in
-    let row = c.args.row.now in
-    let asked = option_map (λ p. filter_truth entries row p.filter) in
-    ap Some (c.filter_truth.ensures.answer ∙ ap (filter_truth entries row) c.as_slice.ensures.value)
-    ∙ ap asked (sym (stands_at part_of _ _ _ _ (stands_in g at.In_ok-block)))
-    ∙ ap (option_and_then (λ g. asked (slice_get g.blocks c.args.block)))
-    (sym (stands_at group_of _ _ _ _ (stands g at.In_ok-alternative)))
+    ap Some c.filter_truth.ensures.answer
+    ∙ ap (truth_on entries c.args.row.now) (sym (found g (goal.at.returns-clause-answer g c).After-as_slice))
+
+pub returns-clause-law : goal.returns-clause-law
+returns-clause-law g c =
+    let q = c.args.query.now in
+    answered (g.C.Catalogue.entries c.args.catalogue.now) c.args.row.now
+    (block_filter (shape q) c.args.alternative c.args.block) (Some c.filter_truth.result)
+    (block_filter_lawful q c.args.alternative c.args.block) (returns-clause-answer g c)

@@ -1,32 +1,35 @@
-use Rattle.std.proofs.Common.{Some, sym, ap, ◌∙◌}
+use Rattle.std.proofs.Common.{◌≡◌, Some, sym, ap, ◌∙◌}
 use Rattle.std.specs.Option.{option_map}
-use Rattle.query.specs.Lawful.{lawful_filter}
 use Rattle.query.specs.Parts.{group_of}
 use Rattle.query.specs.Shape.{shape}
-use Rattle.query.proofs.Limits.{group_limits}
-use Rattle.filter.specs.Filters.{filter_truth}
-use Rattle.filter.proofs.Lawful.{Stands, stands_at, alternative_lawful}
+use Rattle.filter.specs.Calls.{group_filter, truth_on}
+use Rattle.filter.proofs.Calls.{answered}
+use Rattle.filter.proofs.Lawful.{slice_get-made, group_filter_lawful}
 use Rattle.filter.proofs.parts.group_truth.Goals as goal
-use Rattle.filter.proofs.parts.group_truth.Goals.{In_ok-alternative}
+use Rattle.filter.proofs.parts.group_truth.Goals.{After-as_slice}
 
--- the alternative stands at its number in the query
-stands : (g : _) (c : In_ok-alternative g)
-    → Stands group_of c.alternatives.result.now (shape c.args.query.now) c.args.alternative
-    c.in_ok-alternative.alternative.now
-stands g c =
-    let found = c.in_ok-alternative.ensures.lookup in
-    record { made = c.alternatives.ensures; here = found.3.0; is = found.1 }
+-- the nodes that are evaluated are the filter's
+found : (g : _) (c : After-as_slice g)
+    → group_filter (shape c.args.query.now) c.args.alternative ≡ Some c.as_slice.result.now
+found g c =
+    let at = c.in_ok-alternative.ensures.lookup in
+    ap (option_map (λ g. g.filter)) (slice_get-made group_of _ _ _ _ c.alternatives.ensures at.3.0 at.1)
+    ∙ ap Some (sym c.as_slice.ensures.value)
 
 pub filter_truth-requires : goal.filter_truth-requires
 filter_truth-requires g c =
-    let a = c.in_ok-alternative.alternative.now in
-    let law = alternative_lawful c.args.query.now _ _ a (stands g (goal.at.filter_truth-requires g c).In_ok-alternative) in
-    ap lawful_filter c.as_slice.ensures.value ∙ (group_limits (group_of a) law).filter
+    group_filter_lawful c.args.query.now c.args.alternative c.as_slice.result.now
+    (found g (goal.at.filter_truth-requires g c).After-as_slice)
 
 pub returns-clause-answer : goal.returns-clause-answer
 returns-clause-answer g c =
     let entries = g.C.Catalogue.entries c.args.catalogue.now in
-    let row = c.args.row.now in
-    ap Some (c.filter_truth.ensures.answer ∙ ap (filter_truth entries row) c.as_slice.ensures.value)
-    ∙ ap (option_map (λ a. filter_truth entries row a.filter))
-    (sym (stands_at group_of _ _ _ _ (stands g (goal.at.returns-clause-answer g c).In_ok-alternative)))
+    ap Some c.filter_truth.ensures.answer
+    ∙ ap (truth_on entries c.args.row.now) (sym (found g (goal.at.returns-clause-answer g c).After-as_slice))
+
+pub returns-clause-law : goal.returns-clause-law
+returns-clause-law g c =
+    let q = c.args.query.now in
+    answered (g.C.Catalogue.entries c.args.catalogue.now) c.args.row.now
+    (group_filter (shape q) c.args.alternative) (Some c.filter_truth.result)
+    (group_filter_lawful q c.args.alternative) (returns-clause-answer g c)
