@@ -5,6 +5,7 @@ ghost use Rattle.query.specs.Limits.{most_in_part};
 ghost use Rattle.filter.specs.Comparisons.{both_known, both_at, comparison, Agree};
 ghost use Rattle.filter.specs.Rows.{number_at};
 
+use crate::row::{NONE, number_at};
 use crate::term::Term;
 use crate::truth::Truth;
 use catalogue::catalogue::Catalogue;
@@ -13,19 +14,6 @@ use query::place::Place;
 
 /// The most nodes of a filter.
 pub(crate) const MOST_NODES: usize = 16;
-
-/// What stands in a row for a variable that has no value.
-pub(crate) const NONE: u32 = 0;
-
-/// What stands at the place under the row: the variable's value, or the term.
-pub(crate) fn number_at(place: Place, row: &[u32; 16]) -> u32
-    ensures { result ≡ number_at row.now place }
-{
-    match place {
-        Place::Variable(variable) => row.get(variable as usize).copied().unwrap_or(NONE),
-        Place::Term(term) => term,
-    }
-}
 
 /// The terms at the two places, looked up; none where a variable there has no value.
 fn terms_at<C: Catalogue>(

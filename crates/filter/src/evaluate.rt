@@ -6,7 +6,8 @@ ghost use Rattle.query.specs.Limits.{most_in_part};
 ghost use Rattle.filter.specs.Comparisons.{comparison, Agree};
 ghost use Rattle.filter.specs.Filters.{node_truth, truths_of, filter_truth};
 
-use crate::comparisons::{MOST_NODES, NONE, number_at};
+use crate::comparisons::MOST_NODES;
+use crate::row::{NONE, number_at};
 use crate::truth::Truth;
 use query::node::Node;
 use query::place::Place;

@@ -4,6 +4,7 @@
 mod comparisons;
 mod evaluate;
 pub mod parts;
+mod row;
 mod term;
 pub mod theorems;
 pub mod truth;
