@@ -31,6 +31,5 @@ Settled entries r ns t = (ts : List Truth) × (Consistent entries r ns ts × (t 
 
 -- the answer is settled by the filter's nodes; none where there is no filter
 abbrev pub Answered : (ℕ → Entry) → Row → Option (List node.Node) → Option Truth → Type 0
-Answered entries r None o = o ≡ None
-Answered entries r (Some ns) None = ⊥
-Answered entries r (Some ns) (Some t) = Settled entries r ns t
+Answered entries r filter None = filter ≡ None
+Answered entries r filter (Some t) = (ns : List node.Node) × ((filter ≡ Some ns) × Settled entries r ns t)
