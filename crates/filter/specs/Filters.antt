@@ -4,7 +4,6 @@ use Rattle.std.specs.Prelude.{◌≡◌, ℕ, ◌<◌, Bool, cond, not, ◌&&◌
 use Rattle.std.specs.Prelude.{Option, ◌==◌, slice_index_or}
 use Rattle.std.specs.List.{last_or}
 use Rattle.catalogue.specs.Entries.{Entry}
-use Rattle.query.specs.declared.place.Place.{Place}
 use Rattle.query.specs.declared.node.Node as node
 use Rattle.query.specs.declared.node.Node.TheVariants.{Equal, Less, Bound, Not, And, Or}
 use Rattle.filter.specs.declared.truth.Truth.{Truth}

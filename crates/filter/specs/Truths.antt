@@ -1,5 +1,5 @@
 -- Three truth values, and what not, and, or make of them. Assumes nothing.
-use Rattle.std.specs.Prelude.{Bool, true, false, cond}
+use Rattle.std.specs.Prelude.{ℕ, Bool, true, false, cond, List, codes}
 use Rattle.filter.specs.declared.truth.Truth.{Truth}
 use Rattle.filter.specs.declared.truth.Truth.TheVariants.{False, True, Error}
 
@@ -12,6 +12,12 @@ abbrev pub is_true : Truth → Bool
 is_true True = true
 is_true False = false
 is_true Error = false
+
+-- the truth as it is shown
+abbrev pub name_of : Truth → List ℕ
+name_of True = codes "true"
+name_of False = codes "false"
+name_of Error = codes "error"
 
 -- true and false change places, an error stays
 abbrev pub negated : Truth → Truth
