@@ -58,11 +58,13 @@ abbrev pub otherwise : Row → List Row → List (Mark Row)
 otherwise r [] = answer r ∷ []
 otherwise r (s ∷ fits) = []
 
--- the walk of a block from a row; if it never fits, the row goes on as it is
+-- the marks, and behind them, if no answer is among them, the row itself
+abbrev pub or_unextended : Row → List (Mark Row) → List (Mark Row)
+or_unextended r ms = ms ++ otherwise r (answers ms)
+
+-- the walk of a block from a row; if the block never fits, the row goes on as it is
 abbrev pub walk_block : Meaning → (ℕ → Entry) → Admission → Part → Row → List (Mark Row)
-walk_block m e admits b r =
-    walk_part m admits (passes e b.filter) b.triples r
-    ++ otherwise r (answers (walk_part m admits (passes e b.filter) b.triples r))
+walk_block m e admits b r = or_unextended r (walk_part m admits (passes e b.filter) b.triples r)
 
 -- the walk of the blocks left, and behind the last of them an answer if the row passes the group filter
 abbrev pub walk_blocks : Meaning → (ℕ → Entry) → Admission → Group → List Part → Row → List (Mark Row)
