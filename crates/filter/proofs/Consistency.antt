@@ -46,7 +46,8 @@ module _ (entries : ℕ → Entry) (r : Row) where
       let t = node_truth entries r ts n in
       let at : i + suc k ≡ i + 1 + k = omega arith in
       ap (truth_at (truths_onto entries r (ts ++ t ∷ []) ns)) at
-      ∙ onto_each (i + 1) (ts ++ t ∷ []) ns (omega (arith, long, length_push ts t)) w.1 k d (omega (arith, here))
+      ∙ onto_each (i + 1) (ts ++ t ∷ []) ns (omega (arith, long, length_push ts t)) w.1 k d
+      (omega (arith, here))
 
   -- truths that begin with those in front, and are each what its node makes of them, are these
   onto_only : (i : ℕ) (ts : List Truth) (ns : List Node) (us : List Truth) → length ts ≡ i

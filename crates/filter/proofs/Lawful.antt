@@ -1,10 +1,11 @@
 -- What a query keeps, of the filters of its parts. Assumes nothing.
-use Rattle.std.proofs.Common.{◌≡◌, ℕ, zero, suc, ◌<◌, Bool, true, not, List, [], ◌∷◌, length, map, get_or, Some, None, Option}
-use Rattle.std.proofs.Common.{refl, sym, ap, ◌∙◌, subst}
+use Rattle.std.proofs.Common.{◌≡◌, ℕ, ◌<◌, Bool, true, not, List, length, map, get_or, Some, None, Option, refl}
+use Rattle.std.proofs.Common.{sym, ap, ◌∙◌, subst}
 use Rattle.std.specs.List.{slice_get, list_all, list_any}
 use Rattle.std.specs.Option.{option_map, option_and_then}
 use Rattle.std.proofs.lemmas.Bool.{and_parts}
-use Rattle.std.proofs.lemmas.Option.{slice_get_read, slice_get-map}
+use Rattle.std.proofs.lemmas.List.Sums.{AllPass-from_list_all}
+use Rattle.std.proofs.lemmas.Option.{slice_get_read, slice_get-map, slice_get_within, get_or_from_slice_get}
 use Rattle.query.specs.declared.node.Node.{Node}
 use Rattle.query.specs.declared.query.Query.{Query}
 use Rattle.query.specs.Lawful.{lawful_group, lawful_part, lawful_filter, lawful_triples, limited, shares}
@@ -25,18 +26,15 @@ slice_get-made f xs ys i x made here is =
 -- an element passes the test that all pass
 passes_at : {X : Type 0} (test : X → Bool) (xs : List X) (i : ℕ) (x : X) → list_all test xs ≡ true
     → slice_get xs i ≡ Some x → test x ≡ true
-passes_at test [] i x every at = cc
-passes_at test (y ∷ ys) zero x every at =
-    let is : y ≡ x = cc in
-    subst (λ z. test z ≡ true) is (and_parts (test y) (list_all test ys) every).0
-passes_at test (y ∷ ys) (suc i) x every at =
-    passes_at test ys i x (and_parts (test y) (list_all test ys) every).1 at
+passes_at test xs i x every at =
+    subst (λ y. test y ≡ true) (get_or_from_slice_get xs i x x at)
+    (AllPass-from_list_all test xs every i x (slice_get_within xs i x at))
 
 -- option_map
 
 -- what is made of a value that is there keeps what every such value keeps
-made_keeps : {X Y : Type 0} (f : X → Y) (o : Option X) (y : Y) (P : Y → Type 0) → ((x : X) → o ≡ Some x → P (f x))
-    → option_map f o ≡ Some y → P y
+made_keeps : {X Y : Type 0} (f : X → Y) (o : Option X) (y : Y) (P : Y → Type 0)
+    → ((x : X) → o ≡ Some x → P (f x)) → option_map f o ≡ Some y → P y
 made_keeps f None y P keeps at = cc
 made_keeps f (Some x) y P keeps at = let is : f x ≡ y = cc in subst P is (keeps x refl)
 

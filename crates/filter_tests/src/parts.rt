@@ -5,8 +5,8 @@ use filter::truth::Truth;
 use query::read;
 use std::test::Fail;
 
-/// Two alternatives. The first has two blocks, with a filter that is true and one that is false, and its group
-/// filter is an error; the second has nothing.
+/// Two alternatives. The first has two blocks, with a filter that is true and one that is false, and its
+/// group filter is an error; the second has nothing.
 const TWO_ALTERNATIVES: [u8; 24] = [
     2, 0, 2, 1, 2, 2, 2, 1, 3, 2, 1, 2, 2, 2, 1, 3, 0, 1, 1, 1, 1, 0, 0, 0,
 ];

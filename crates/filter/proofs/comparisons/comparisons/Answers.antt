@@ -15,7 +15,8 @@ loop-number-preserved g c =
       read = read_more (g.C.Catalogue.entries c.args.catalogue.now) row nodes l.number l.truths
           c.comparison.result c.loop-number-test.true
           (omega (arith, seen.long, c.loop-number-test.true, c.requires)) seen.read
-          (c.comparison.ensures.answer ∙ ap (λ e. comparison e row (get_or nodes l.number no_node)) seen.same);
+          (c.comparison.ensures.answer
+          ∙ ap (λ e. comparison e row (get_or nodes l.number no_node)) seen.same);
       same = c.comparison.ensures.same ∙ seen.same;
       kept = c.comparison.ensures.kept ∙ seen.kept;
     }
