@@ -46,7 +46,7 @@ examples_hold = record {
     candidate = record { held = refl; fit = refl; reached = refl };
     first = λ u c. c.reached;
   };
-  seek_finds_none_behind_the_last = none_behind;
+  seek_finds_none_after_the_last = none_behind;
   block_extends_or_is_left = refl;
   answers_packed = refl;
   algebra_gives_the_rows_walked = refl;
@@ -54,6 +54,11 @@ examples_hold = record {
   every_pair_tried = refl;
   only_what_matches_tried = refl;
   extended_row_filtered = refl;
+  two_triples_joined = refl;
+  triples_tested_apart = refl;
+  triple_without_the_variable_tested = refl;
+  each_block_by_itself = refl;
+  long_numbers_packed = refl;
   error_leaves_the_row = refl;
   nothing_asked_answered_once = refl;
   blank_row_packed = refl;

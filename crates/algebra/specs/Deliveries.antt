@@ -50,6 +50,24 @@ onward_by_less =
 abbrev pub went_into : List ℕ
 went_into = 0x01 ∷ 0x01 ∷ 0x01 ∷ 0x08 ∷ 0x03 ∷ 0x00 ∷ 0x00 ∷ []
 
+-- what went into what, and on to where: (variable 0, 4, variable 1) and (variable 1, 5, variable 2)
+abbrev pub in_two_steps : List ℕ
+in_two_steps = 0x01 ∷ 0x02 ∷ 0x01 ∷ 0x08 ∷ 0x03 ∷ 0x03 ∷ 0x0A ∷ 0x05 ∷ 0x00 ∷ 0x00 ∷ []
+
+-- the same, but both steps are of property 4: (variable 0, 4, variable 1) and (variable 1, 4, variable 2)
+abbrev pub into_in_two_steps : List ℕ
+into_in_two_steps = 0x01 ∷ 0x02 ∷ 0x01 ∷ 0x08 ∷ 0x03 ∷ 0x03 ∷ 0x08 ∷ 0x05 ∷ 0x00 ∷ 0x00 ∷ []
+
+-- what lot 1 went into, and what went on to batch 3: (1, 4, variable 0) and (variable 1, 5, 3)
+abbrev pub apart : List ℕ
+apart = 0x01 ∷ 0x02 ∷ 0x02 ∷ 0x08 ∷ 0x01 ∷ 0x03 ∷ 0x0A ∷ 0x06 ∷ 0x00 ∷ 0x00 ∷ []
+
+-- onward with a filter in its block, bound(variable 1), and a second block, (variable 2, 4, variable 0)
+abbrev pub from_where_and_onward : List ℕ
+from_where_and_onward =
+    0x01 ∷ 0x01 ∷ 0x02 ∷ 0x08 ∷ 0x01 ∷ 0x02 ∷ 0x01 ∷ 0x01 ∷ 0x0A ∷ 0x03 ∷ 0x01 ∷ 0x03 ∷ 0x01
+    ∷ 0x01 ∷ 0x05 ∷ 0x08 ∷ 0x01 ∷ 0x00 ∷ 0x00 ∷ []
+
 -- one alternative that asks nothing
 abbrev pub nothing_asked : List ℕ
 nothing_asked = 0x01 ∷ 0x00 ∷ 0x00 ∷ 0x00 ∷ []

@@ -9,11 +9,13 @@ use Rattle.query.specs.Readers.{refused, number}
 use Rattle.triples.specs.Seeks.{Sought}
 use Rattle.filter.specs.Rows.{Row}
 use Rattle.algebra.specs.Admissions.{every_term, look_ahead}
-use Rattle.algebra.specs.Patterns.{blank}
+use Rattle.algebra.specs.Patterns.{blank, with_value}
 use Rattle.algebra.specs.Answers.{Answer}
 use Rattle.algebra.specs.Walk.{try, answer}
 use Rattle.algebra.specs.Deliveries.{triple, selector, deliveries, onward, kept_back, onward_by_less}
-use Rattle.algebra.specs.Deliveries.{went_into, nothing_asked, asked_twice, shared}
+use Rattle.algebra.specs.Deliveries.{went_into, in_two_steps, into_in_two_steps, apart, from_where_and_onward}
+use Rattle.algebra.specs.Deliveries.{nothing_asked, asked_twice, shared}
+use Rattle.algebra.specs.Packing.{packed}
 use Rattle.algebra.specs.Deliveries.{of_bytes, walked, tries, packed_answers, defined}
 
 -- variable 0 is batch 2, variable 1 is farm 6
@@ -54,8 +56,8 @@ pub record WorkedExamples : Type 0 where
   -- a seek for property 4 that starts at a triple with it finds that triple
   pub seek_finds_its_start :
       Sought deliveries.has (selector 0 4 0) (triple 1 4 3) (Some (triple 1 4 3))
-  -- behind the last triple with property 4 there is none, though a triple with property 5 follows
-  pub seek_finds_none_behind_the_last : Sought deliveries.has (selector 0 4 0) (triple 1 4 4) None
+  -- after the last triple with property 4 there is none, though a triple with property 5 follows
+  pub seek_finds_none_after_the_last : Sought deliveries.has (selector 0 4 0) (triple 1 4 4) None
   -- batch 2 is tried and then farm 6, which gives an answer; batch 3 is tried, nothing is worth a try for
   -- where it went on to, and the row goes on without
   pub block_extends_or_is_left : of_bytes (walked look_ahead) onward
@@ -68,19 +70,33 @@ pub record WorkedExamples : Type 0 where
   -- the algebra gives the rows that the walk lists, here in the same order
   pub algebra_gives_the_rows_walked : of_bytes defined onward
       ≡ Some (in_alternative 0 first_batch_at_farm ∷ in_alternative 0 second_batch_alone ∷ [])
-  -- where every term is tried, it is six tries for variable 0, and six more for variable 1 behind each of the
-  -- two batches
+  -- where every term is tried, there are six tries for variable 0, and six for variable 1 after each of the two
+  -- batches
   pub every_term_tried : of_bytes (tries every_term) onward ≡ Some 18
-  -- six tries for variable 0 and six behind each of them; looking ahead, lot 1 and its two batches
+  -- six tries for variable 0 and six after each of them; looking ahead, lot 1 and its two batches
   pub every_pair_tried : of_bytes (tries every_term) went_into ≡ Some 42
   pub only_what_matches_tried : of_bytes (tries look_ahead) went_into ≡ Some 3
   -- the filter asks that variable 1 has no value: the row that a block extended does not pass it
   pub extended_row_filtered : of_bytes (packed_answers look_ahead) kept_back
       ≡ Some ((0x00 ∷ 0x01 ∷ 0x03 ∷ []) ∷ [])
+  -- two required triples share a variable, and all of one solution must be there at once
+  pub two_triples_joined : of_bytes (packed_answers look_ahead) in_two_steps
+      ≡ Some ((0x00 ∷ 0x07 ∷ 0x01 ∷ 0x02 ∷ 0x06 ∷ []) ∷ [])
+  -- looking ahead, each triple of a part matches by itself: lot 1 is tried, since it went into something and
+  -- something went into something; that nothing went on from there is found when variable 1 is tried
+  pub triples_tested_apart : of_bytes (walked look_ahead) into_in_two_steps ≡ Some (try 0 1 ∷ [])
+  -- looking ahead, a triple without the variable is tested too: nothing went on to batch 3
+  pub triple_without_the_variable_tested : of_bytes (walked look_ahead) apart ≡ Some []
+  -- two blocks: the row for which the first has no fit goes on to the second
+  pub each_block_by_itself : of_bytes (packed_answers look_ahead) from_where_and_onward
+      ≡ Some ((0x00 ∷ 0x07 ∷ 0x02 ∷ 0x06 ∷ 0x01 ∷ []) ∷ (0x00 ∷ 0x05 ∷ 0x03 ∷ 0x01 ∷ []) ∷ [])
+  -- alternative 1, variable 7 alone (mask 80 01), whose value is 300 (AC 02)
+  pub long_numbers_packed : packed (in_alternative 1 (with_value blank 7 300))
+      ≡ 0x01 ∷ 0x80 ∷ 0x01 ∷ 0xAC ∷ 0x02 ∷ []
   -- an error in a block's filter is no fit: both rows go on without the block
   pub error_leaves_the_row : of_bytes defined onward_by_less
       ≡ Some (in_alternative 0 first_batch_alone ∷ in_alternative 0 second_batch_alone ∷ [])
-  -- who asks nothing gets one answer, the row without values, and nothing is tried
+  -- a query that asks nothing has one answer, the row without values, and no tries
   pub nothing_asked_answered_once : of_bytes (walked every_term) nothing_asked
       ≡ Some (answer (in_alternative 0 blank) ∷ [])
   pub blank_row_packed : of_bytes (packed_answers every_term) nothing_asked ≡ Some ((0x00 ∷ 0x00 ∷ []) ∷ [])
