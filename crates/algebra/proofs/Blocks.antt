@@ -6,7 +6,7 @@
 use Rattle.std.proofs.Common.{◌≡◌, ℕ, ◌<◌, Bool, true, false, not, ◌&&◌, ◌||◌, ◌⊎◌, List, [], ◌∷◌}
 use Rattle.std.proofs.Common.{length, refl, sym, ap, ◌∙◌, subst, ⊎_elim, inl, inr, arith}
 use Rattle.std.proofs.lemmas.Bool.{cases_eq, both_ways, and_parts, and_from, or_parts}
-use Rattle.std.specs.List.{filter, list_any, AllByRecursion}
+use Rattle.std.specs.List.{list_any, AllByRecursion}
 use Rattle.catalogue.specs.Entries.{Entry}
 use Rattle.query.specs.declared.pattern.TriplePattern.{TriplePattern}
 use Rattle.query.specs.Lawful.{mentions}
@@ -15,14 +15,14 @@ use Rattle.query.specs.Parts.{Part}
 use Rattle.triples.specs.Meaning.{Meaning}
 use Rattle.filter.specs.Rows.{Row, value, has_value}
 use Rattle.filter.specs.Filters.{passes}
-use Rattle.algebra.specs.Patterns.{stored, completions, open_variables}
-use Rattle.algebra.specs.Order.{Ascending}
-use Rattle.algebra.proofs.Lists.{all-weaker, all-filter, all-flat_map}
+use Rattle.algebra.specs.Patterns.{completions, open_variables}
+use Rattle.algebra.proofs.Lists.{all-weaker, all-flat_map}
 use Rattle.algebra.proofs.Rows.{has_value-none}
-use Rattle.algebra.proofs.Assignments.{Fills, open-rising, among-open, among-open_back, completions-fill}
+use Rattle.algebra.specs.Admissions.{Completes}
+use Rattle.algebra.proofs.Completions.{all-completions}
+use Rattle.algebra.proofs.Fitting.{all-fitting, all-or_itself}
 use Rattle.algebra.proofs.Listing.{fitting, or_itself, extended}
-use Rattle.algebra.proofs.Ascents.{ascending-filter}
-use Rattle.algebra.proofs.Flat.{Less, Lowest, lowest-less, assignments-ascend}
+use Rattle.algebra.proofs.Flat.{Less, Lowest, lowest-less}
 
 -- the triples of one of the blocks hold v
 abbrev pub in_blocks : ℕ → List Part → Bool
@@ -54,24 +54,23 @@ pub record Fitted (ts : List TriplePattern) (r s : Row) : Type 0 where
 
 -- fitting, or_itself
 
-all-or_itself : (P : Row → Type 0) (r : Row) (rows : List Row) → P r → AllByRecursion P rows
-    → AllByRecursion P (or_itself r rows)
-all-or_itself P r [] h k = (h, tt)
-all-or_itself P r (s ∷ rows) h k = k
-
 module _ (ts : List TriplePattern) (r : Row) where
-  fitted-fills : (top : ℕ) (s : Row) → Fills top (open_variables ts r) r s → Fitted ts r s
-  fitted-fills top s f =
-      let same : (v : ℕ) → (0 < value r v) ⊎ (mentions v ts ≡ false) → value s v ≡ value r v =
-      (λ v h. f.kept v (λ a. let o = among-open_back ts r v a in
-      ⊎_elim (λ l. omega (arith, l, o.valueless)) (λ n. both_ways (mentions v ts) n o.held) h)) in
-      record {
-        given = λ v h t. ⊎_elim
-            (λ e. (f.given v (among-open ts r v h t e)).positive)
-            (λ n. let l : 0 < value r v = omega (arith, n) in omega (arith, l, same v (inl l)))
-            (cases_eq (value r v) 0);
-        kept = record { long = f.long; same = same };
-      }
+  fitted_from_completes : (top : ℕ) (s : Row) → Completes top ts r s → Fitted ts r s
+  fitted_from_completes top s c = record {
+    given = λ v h t. ⊎_elim
+        (λ e. (c.given v h t e).positive)
+        (λ n. let same = c.kept v (inr (inr n)) in omega (arith, n, same))
+        (cases_eq (value r v) 0);
+    kept = record {
+      long = c.long;
+      same = λ v h. c.kept v (inr (⊎_elim (λ l. inr (λ e. omega (arith, l, e))) inl h));
+    };
+  }
+
+  pub fitted-completions : (top : ℕ) → length r ≡ variables → AllByRecursion (Fitted ts r) (completions top ts r)
+  fitted-completions top long =
+      all-weaker (Completes top ts r) (Fitted ts r) (fitted_from_completes top) (completions top ts r)
+      (all-completions top ts r long)
 
   -- fitted rows in the order over the variables that were open differ first at a variable of the triples
   pub fitted-lowest : (s t : Row) → Fitted ts r s → Fitted ts r t → Less (open_variables ts r) s t
@@ -85,37 +84,6 @@ module _ (ts : List TriplePattern) (r : Row) where
       (λ k. let l : 0 < value r v = omega (arith, k) in f.kept.same v (inl l) ∙ sym (g.kept.same v (inl l)))
       (cases_eq (value r v) 0))
       0 variables
-
-module _ (m : Meaning) where
-  completions-fitted : (ts : List TriplePattern) (r : Row) → length r ≡ variables
-      → AllByRecursion (Fitted ts r) (completions m.top ts r)
-  completions-fitted ts r h =
-      all-weaker (Fills m.top (open_variables ts r) r) (Fitted ts r) (fitted-fills ts r m.top)
-      (completions m.top ts r) (completions-fill m.top ts r h)
-
-  pub stored-fitted : (ts : List TriplePattern) (r : Row) → length r ≡ variables
-      → AllByRecursion (Fitted ts r) (filter (stored m ts) (completions m.top ts r))
-  stored-fitted ts r h =
-      all-filter (Fitted ts r) (Fitted ts r) (stored m ts) (λ _ f _. f) (completions m.top ts r)
-      (completions-fitted ts r h)
-
-  pub fitting-fitted : (test : Row → Bool) (ts : List TriplePattern) (r : Row) → length r ≡ variables
-      → AllByRecursion (Fitted ts r) (fitting m test ts r)
-  fitting-fitted test ts r h =
-      all-filter (Fitted ts r) (Fitted ts r) test (λ _ f _. f) (filter (stored m ts) (completions m.top ts r))
-      (stored-fitted ts r h)
-
-  pub stored-ascends : (ts : List TriplePattern) (r : Row) → length r ≡ variables
-      → Ascending (Less (open_variables ts r)) (filter (stored m ts) (completions m.top ts r))
-  stored-ascends ts r h =
-      ascending-filter (Less (open_variables ts r)) (stored m ts) (completions m.top ts r)
-      (assignments-ascend m.top (open_variables ts r) r (open-rising ts r h))
-
-  pub fitting-ascends : (test : Row → Bool) (ts : List TriplePattern) (r : Row) → length r ≡ variables
-      → Ascending (Less (open_variables ts r)) (fitting m test ts r)
-  fitting-ascends test ts r h =
-      ascending-filter (Less (open_variables ts r)) test (filter (stored m ts) (completions m.top ts r))
-      (stored-ascends ts r h)
 
 -- extended
 
@@ -135,4 +103,5 @@ module _ (m : Meaning) (e : ℕ → Entry) where
       (or_itself r fits)
       (all-or_itself K r fits (kept-self (λ v. mentions v b.triples) r)
       (all-weaker (Fitted b.triples r) K (λ s f. f.kept) fits
-      (fitting-fitted m (passes e b.filter) b.triples r h))))
+      (all-fitting (Fitted b.triples r) m (passes e b.filter) b.triples r
+      (fitted-completions b.triples r m.top h)))))

@@ -1,8 +1,8 @@
 -- The algebra counts every answer as the listing does. Lists of which only counts matter are compared by
 -- their totals, whatever number each row counts with. Assumes nothing.
-use Rattle.std.proofs.Common.{◌≡◌, ℕ, ◌+◌, ◌≤◌, Bool, true, false, cond, not, ◌&&◌, ◌||◌}
+use Rattle.std.proofs.Common.{◌≡◌, ℕ, ◌+◌, Bool, true, false, cond, not, ◌&&◌, ◌||◌}
 use Rattle.std.proofs.Common.{List, [], ◌∷◌, ◌++◌, map, map-id, refl, sym, ap, ap₂, ◌∙◌, subst, arith, ⊎_elim}
-use Rattle.std.proofs.lemmas.Bool.{cases_Bool, cases_eq, cases_lt}
+use Rattle.std.proofs.lemmas.Bool.{cases_Bool, cases_lt}
 use Rattle.std.proofs.lemmas.List.Concat.{flat_map_single}
 use Rattle.std.specs.List.{filter, flat_map, list_all, AllByRecursion}
 use Rattle.catalogue.specs.Entries.{Entry}
@@ -12,16 +12,18 @@ use Rattle.query.specs.Lawful.{total}
 use Rattle.triples.specs.Meaning.{Meaning}
 use Rattle.filter.specs.Rows.{Row, value}
 use Rattle.filter.specs.Filters.{passes}
-use Rattle.algebra.specs.Patterns.{blank, with_value, stored, open_variables, terms, assignments, completions}
+use Rattle.algebra.specs.Patterns.{blank, stored, completions}
 use Rattle.algebra.specs.Algebra.{bgp, compatible, merge, join, diff, left_join}
 use Rattle.algebra.specs.Answers.{left_joins, solutions, Answer, numbered, answers_from, answers_to}
 use Rattle.algebra.specs.Answers.{same_answer, times_answered}
 use Rattle.algebra.proofs.Listing.{fitting, or_itself, extended, rows_of, answers_of_from, answers_of}
-use Rattle.algebra.proofs.Lists.{all-append, all-weaker, all-filter, all-flat_map, flat_map-same}
+use Rattle.algebra.proofs.Lists.{all-append, all-weaker, all-filter, all-flat_map, flat_map-same, count_by-total}
 use Rattle.algebra.proofs.Lists.{flat_map-flat_map, filter-same, filter-flat_map, total-append}
 use Rattle.algebra.proofs.Lists.{total-flat_map, total-map, total-filter, total-like, total-plus}
-use Rattle.algebra.proofs.Rows.{value-with_same, value-with_other, length-with_value, with_value-past}
-use Rattle.algebra.proofs.Rows.{value-blank, length-blank, times_answered-total, all-range}
+use Rattle.algebra.proofs.Rows.{value-blank, length-blank, answer_of}
+use Rattle.algebra.proofs.Completions.{kept_from_completes, all-completions}
+use Rattle.algebra.specs.Admissions.{Completes}
+use Rattle.algebra.proofs.Fitting.{all-fitting}
 use Rattle.algebra.proofs.Joins.{Valid, join-pattern}
 
 -- Valid
@@ -29,36 +31,24 @@ use Rattle.algebra.proofs.Joins.{Valid, join-pattern}
 valid-blank : (top : ℕ) → Valid top blank
 valid-blank top = record { long = length-blank; small = λ v. omega (arith, value-blank v) }
 
-valid-with_value : (top : ℕ) (r : Row) (v x : ℕ) → Valid top r → x ≤ top → Valid top (with_value r v x)
-valid-with_value top r v x h small = record {
-  long = length-with_value r v x ∙ h.long;
-  small = λ w. ⊎_elim
-      (λ e. ⊎_elim
-      (λ l. let at = ap (value (with_value r v x)) e ∙ value-with_same r v x l in omega (arith, at, small))
-      (λ p. let at = ap (λ t. value t w) (with_value-past r v x p) in omega (arith, at, h.small w))
-      (cases_lt v _))
-      (λ d. let at = value-with_other r v x w d in omega (arith, at, h.small w))
-      (cases_eq w v);
+-- a value over the top would be of an open variable, to which a term is given
+valid_from_completes : (top : ℕ) (ts : List TriplePattern) (r s : Row) → Valid top r → Completes top ts r s
+    → Valid top s
+valid_from_completes top ts r s h c = record {
+  long = c.long ∙ h.long;
+  small = λ v. ⊎_elim
+      (λ high. let same = kept_from_completes top ts r s c v
+      (λ o. let t = c.given v o.inside o.held o.valueless in omega (arith, high, t.small)) in
+      absurd (omega (arith, high, same, h.small v)))
+      (λ low. low)
+      (cases_lt top (value s v));
 }
 
-valid-assignments : (top : ℕ) (vs : List ℕ) (r : Row) → Valid top r
-    → AllByRecursion (Valid top) (assignments top vs r)
-valid-assignments top [] r h = (h, tt)
-valid-assignments top (v ∷ vs) r h =
-    all-flat_map (Valid top) (λ x. assignments top vs (with_value r v x)) (terms top)
-    (all-weaker _ _
-    (λ x l. valid-assignments top vs (with_value r v x) (valid-with_value top r v x h (omega (arith, l.1))))
-    (terms top) (all-range 1 top))
-
-valid-filter : (top : ℕ) (test : Row → Bool) (rows : List Row) → AllByRecursion (Valid top) rows
-    → AllByRecursion (Valid top) (filter test rows)
-valid-filter top test rows h = all-filter (Valid top) (Valid top) test (λ _ k _. k) rows h
-
-valid-completions : (m : Meaning) (ts : List TriplePattern) (r : Row) → Valid m.top r
-    → AllByRecursion (Valid m.top) (filter (stored m ts) (completions m.top ts r))
-valid-completions m ts r h =
-    valid-filter m.top (stored m ts) (completions m.top ts r)
-    (valid-assignments m.top (open_variables ts r) r h)
+valid-completions : (top : ℕ) (ts : List TriplePattern) (r : Row) → Valid top r
+    → AllByRecursion (Valid top) (completions top ts r)
+valid-completions top ts r h =
+    all-weaker (Completes top ts r) (Valid top) (λ s. valid_from_completes top ts r s h) (completions top ts r)
+    (all-completions top ts r h.long)
 
 -- left_join
 
@@ -142,14 +132,10 @@ module _ (m : Meaning) (test : Row → Bool) (ts : List TriplePattern) (left : L
       subst (AllByRecursion (Valid m.top)) (sym left_join-fits)
       (all-append (Valid m.top) _ _
       (all-flat_map (Valid m.top) (fitting m test ts) left
-      (all-weaker _ _ (λ r h. valid-filter m.top test _ (valid-completions m ts r h)) left valid))
-      (valid-filter m.top _ left valid))
+      (all-weaker _ _ (λ r h. all-fitting (Valid m.top) m test ts r (valid-completions m.top ts r h)) left valid))
+      (all-filter (Valid m.top) _ left valid))
 
 -- left_joins, solutions, answers_to
-
--- the row as an answer of alternative a
-abbrev answer_of : ℕ → Row → Answer
-answer_of a r = record { alternative = a; row = r }
 
 module _ (m : Meaning) (e : ℕ → Entry) where
   -- left joins with the blocks count as what the blocks make of each row
@@ -175,7 +161,8 @@ module _ (m : Meaning) (e : ℕ → Entry) where
       let first = bgp m g.required in
       total-filter w test (left_joins m e first g.blocks)
       ∙ total-left_joins g.blocks (λ r. cond (test r) (w r) 0) first
-      (valid-completions m g.required blank (valid-blank m.top))
+      (all-filter (Valid m.top) (stored m g.required) (completions m.top g.required blank)
+      (valid-completions m.top g.required blank (valid-blank m.top)))
       ∙ sym (total-filter w test (flat_map (extended m e g.blocks) first))
 
   total-answers : (w : Answer → ℕ) (a : ℕ) (q : List Group)
@@ -197,6 +184,6 @@ module _ (m : Meaning) (e : ℕ → Entry) where
   pub listing_counts : (q : List Group) (a : Answer)
       → times_answered a (answers_of m e q) ≡ times_answered a (answers_to m e q)
   listing_counts q a =
-      times_answered-total a (answers_of m e q)
+      count_by-total (same_answer a) (answers_of m e q)
       ∙ total-answers (λ b. cond (same_answer a b) 1 0) 0 q
-      ∙ sym (times_answered-total a (answers_to m e q))
+      ∙ sym (count_by-total (same_answer a) (answers_to m e q))

@@ -6,20 +6,14 @@ use Rattle.std.proofs.Common.{◌≡◌, ℕ, zero, suc, ◌+◌, ◌<◌, ◌�
 use Rattle.std.proofs.Common.{length, sym, ◌∙◌, subst, subst₂, ⊎_elim, inl, inr, arith}
 use Rattle.std.proofs.lemmas.Bool.{cases_Bool, cases_eq, cases_lt, both_ways}
 use Rattle.std.specs.List.{filter, range_with_len, AllByRecursion}
-use Rattle.query.specs.Limits.{variables}
 use Rattle.triples.specs.Meaning.{first_term}
 use Rattle.filter.specs.Rows.{Row, value}
 use Rattle.algebra.specs.Patterns.{with_value, terms, assignments}
 use Rattle.algebra.specs.Order.{Ascending}
 use Rattle.algebra.proofs.Lists.{filter-yes, filter-no, all-weaker, all-every}
-use Rattle.algebra.proofs.Rows.{value-past, value-with_same, length-with_value}
-use Rattle.algebra.proofs.Assignments.{Rising, Fills, not-among, assignments-fill}
+use Rattle.algebra.proofs.Rows.{value-with_same}
+use Rattle.algebra.proofs.Assignments.{Rising, Fills, other_from_below, rising-rest, all-assignments}
 use Rattle.algebra.proofs.Ascents.{ascending-weaker, ascending-flat_map, ascending-range}
-
--- rows do not differ behind their sixteen values
-pub same-past : (r s : Row) → length r ≡ variables → length s ≡ variables → (v : ℕ) → variables ≤ v
-    → value r v ≡ value s v
-same-past r s h k v l = value-past r v (omega (arith, h, l)) ∙ sym (value-past s v (omega (arith, k, l)))
 
 -- at the first variable of the list at which the rows differ, r has the smaller value; there is such a one
 abbrev pub Less : List ℕ → Row → Row → Type 0
@@ -125,21 +119,23 @@ module _ (p : ℕ → Bool) (r s : Row) where
 
 -- the assignments of a list of variables ascend in the order over it
 
-pub assignments-ascend : (top : ℕ) (vs : List ℕ) (r : Row) → Rising (length r) vs
+pub less-never : (vs : List ℕ) (r : Row) → Less vs r r → ⊥
+less-never [] r h = h
+less-never (v ∷ vs) r h = ⊎_elim (λ l. omega (arith, l)) (λ k. less-never vs r k.1) h
+
+pub ascending-assignments : (top : ℕ) (vs : List ℕ) (r : Row) → Rising (length r) vs
     → Ascending (Less vs) (assignments top vs r)
-assignments-ascend top [] r h = (tt, tt)
-assignments-ascend top (v ∷ vs) r h =
+ascending-assignments top [] r h = (tt, tt)
+ascending-assignments top (v ∷ vs) r h =
     let into : ℕ → Row = (λ x. with_value r v x) in
-    let rising : (x : ℕ) → Rising (length (into x)) vs =
-    (λ x. subst (λ n. Rising n vs) (sym (length-with_value r v x)) h.2) in
     let gives : (x : ℕ) → AllByRecursion (λ s. value s v ≡ x) (assignments top vs (into x)) =
     (λ x. all-weaker (Fills top vs (into x)) (λ s. value s v ≡ x)
-    (λ s f. f.kept v (not-among v vs h.1) ∙ value-with_same r v x h.0) (assignments top vs (into x))
-    (assignments-fill top vs (into x) (rising x))) in
+    (λ s f. f.kept v (other_from_below v vs h.1.0) ∙ value-with_same r v x h.0.0) (assignments top vs (into x))
+    (all-assignments top vs (into x) (rising-rest r v x vs h))) in
     ascending-flat_map (λ x. Unit {0}) (λ x y. x < y) (Less (v ∷ vs)) (λ x s. value s v ≡ x)
     (λ x. assignments top vs (into x)) (λ x _. gives x)
     (λ x y _ _ l b c p q. inl (subst₂ (λ i j. i < j) (sym p) (sym q) l))
     (λ x _. ascending-weaker (Less vs) (λ s. value s v ≡ x) (Less (v ∷ vs))
     (λ b c p q l. inr (p ∙ sym q, l)) (assignments top vs (into x)) (gives x)
-    (assignments-ascend top vs (into x) (rising x)))
+    (ascending-assignments top vs (into x) (rising-rest r v x vs h)))
     (terms top) (all-every (λ x. Unit {0}) (λ x. tt) (terms top)) (ascending-range first_term top)

@@ -2,11 +2,10 @@
 use Rattle.std.proofs.Common.{◌≡◌, ℕ, zero, suc, ◌+◌, ◌<◌, false, length, drop, Some, None, Option, refl, sym}
 use Rattle.std.proofs.Common.{ap, ◌∙◌, subst, inl, ⊎_elim, arith}
 use Rattle.std.proofs.Math.ListN.{drop_of_length-le}
-use Rattle.std.proofs.lemmas.Bool.{cases_Bool, both_ways, cases_lt}
+use Rattle.std.proofs.lemmas.Bool.{cases_Bool, both_ways}
 use Rattle.std.specs.List.{flat_map}
 use Rattle.catalogue.specs.Entries.{Entry}
-use Rattle.query.specs.Lawful.{shares}
-use Rattle.query.specs.Limits.{variables}
+use Rattle.query.specs.Lawful.{shares, mentions}
 use Rattle.query.specs.Parts.{Group}
 use Rattle.triples.specs.Meaning.{Meaning, Term, Sound}
 use Rattle.filter.specs.Rows.{Row, none, value}
@@ -17,17 +16,18 @@ use Rattle.algebra.specs.Answers.{times}
 use Rattle.algebra.specs.Order.{part_of}
 use Rattle.algebra.specs.Words.{reached, upto, Left, Answered, no_part}
 use Rattle.algebra.proofs.Listing.{or_itself, extended, rows_of}
-use Rattle.algebra.proofs.Assignments.{among-open, among-open_back}
-use Rattle.algebra.proofs.Rows.{length-blank, value-blank}
-use Rattle.algebra.proofs.Members.{Member, member_filter, member_flat_map, times_member, members_none}
-use Rattle.algebra.proofs.Members.{or_itself_fits, or_itself_none, drop_next}
+use Rattle.algebra.proofs.Rows.{length-blank, value-blank, times_from_member}
+use Rattle.algebra.proofs.Members.{Member, member-filter, member-flat_map, nil_from_members}
 use Rattle.algebra.proofs.Owners.{block_at, block_holds, required_owns, required_holds}
 use Rattle.algebra.proofs.Patterns.{stored-same, stored-terms}
 use Rattle.algebra.proofs.Phrases.{reached_part, reached_more, reached_above, reached_next, reached_next-no}
 use Rattle.algebra.proofs.Phrases.{reached_less-no, reached_first-no, length-upto, upto_kept, upto_part}
 use Rattle.algebra.proofs.Phrases.{upto_dropped, upto_is, upto_past}
-use Rattle.algebra.proofs.Fillings.{Filled, fitting_filled, filled_fitting, filled_bgp}
-use Rattle.algebra.proofs.Work.{Worked, Asked, made_by, cases_part, term_some, filled_kept, filled_from}
+use Rattle.algebra.specs.Admissions.{Completes}
+use Rattle.algebra.proofs.Lists.{drop-next}
+use Rattle.algebra.proofs.Fitting.{member-stored, fits_from_member, member-fitting}
+use Rattle.algebra.proofs.Fitting.{member-or_itself, member-or_itself_none}
+use Rattle.algebra.proofs.Work.{Worked, Asked, made_by, term_some, others_from_completes, completes_from_own}
 
 module _ (m : Meaning) (e : ℕ → Entry) (g : Group) (r : Row) (a : Answered m e g r) where
   -- with the values of all blocks it is the row itself
@@ -87,19 +87,19 @@ module _ (m : Meaning) (e : ℕ → Entry) (g : Group) (r : Row) (a : Answered m
         let w = worked_upto k in
         let rows = made_by m e g k s in
         ⊎_elim
-        (λ extended. or_itself_fits s t rows
-        (filled_fitting m e (block_at g k) s t w.long
-        (filled_from g k s w apart low m.top t (length-upto g (k + 1) r)
+        (λ extended. member-or_itself s t rows
+        (member-fitting m e (block_at g k) s t
+        (completes_from_own g k s w apart low m.top t (length-upto g (k + 1) r)
         (λ v own. subst (Term m.top) (sym (upto_part g (k + 1) r v (k + 1) a.long own (omega arith)))
         (extended.values v own))
         (upto_others k)) extended.fits))
-        (λ left. or_itself_none s t rows (upto_left k left) (members_none rows (λ u h.
-        let (f, fits) = fitting_filled m e (block_at g k) s u w.long h in
+        (λ left. member-or_itself_none s t rows (upto_left k left) (nil_from_members rows (λ u h.
+        let (f, fits) = fits_from_member m e (block_at g k) s u w.long h in
         left.nothing u (record {
           long = f.long ∙ w.long;
           own = λ v own. stored-terms m sound (block_at g k).triples u v fits.triples
               ((block_holds g k v own).1);
-          others = λ v other. filled_kept g k s w apart low m.top u f v other ∙ sym (upto_others k v other);
+          others = λ v other. others_from_completes g k s w apart low m.top u f v other ∙ sym (upto_others k v other);
         }) fits)))
         asked
 
@@ -113,27 +113,27 @@ module _ (m : Meaning) (e : ℕ → Entry) (g : Group) (r : Row) (a : Answered m
     listed_onward (suc n) k all =
         let low : k < length g.blocks = omega arith in
         let all_next : (k + 1) + n ≡ length g.blocks = omega arith in
-        subst (λ bs. Member r (extended m e bs (upto g k r))) (sym (drop_next g.blocks k no_part low))
-        (member_flat_map (extended m e (drop (k + 1) g.blocks)) r (upto g (k + 1) r)
+        subst (λ bs. Member r (extended m e bs (upto g k r))) (sym (drop-next g.blocks k no_part low))
+        (member-flat_map (extended m e (drop (k + 1) g.blocks)) r (upto g (k + 1) r)
         (or_itself (upto g k r) (made_by m e g k (upto g k r)))
         (listed_step k low (a.blocks k low)) (listed_onward n (k + 1) all_next))
 
     -- its required triples alone
-    filled_start : Filled m.top g.required blank (upto g 0 r)
-    filled_start =
+    completes_start : Completes m.top g.required blank (upto g 0 r)
+    completes_start =
         record {
           long = length-upto g 0 r ∙ sym length-blank;
-          given = λ v h. let o = among-open_back g.required blank v h in
-              subst (Term m.top) (sym (upto_part g 0 r v 0 a.long (required_owns g v o.held) (omega arith)))
-              (stored-terms m sound g.required r v a.required o.held);
-          kept = λ v shut. ⊎_elim
-              (λ first. ⊎_elim
-              (λ small. absurd (shut (among-open g.required blank v small (required_holds g v first)
-              (value-blank v))))
-              (λ high. upto_past g 0 r v high ∙ sym (value-blank v))
-              (cases_lt v variables))
-              (λ other. upto_dropped g 0 r v (reached_first-no (part_of g v) other) ∙ sym (value-blank v))
-              (cases_part (part_of g v) 0);
+          given = λ v small held free.
+              subst (Term m.top) (sym (upto_part g 0 r v 0 a.long (required_owns g v held) (omega arith)))
+              (stored-terms m sound g.required r v a.required held);
+          kept = λ v h. ⊎_elim
+              (λ past. upto_past g 0 r v past)
+              (⊎_elim
+              (λ lacks. upto_dropped g 0 r v (reached_first-no (part_of g v)
+              (λ first. both_ways (mentions v g.required) lacks (required_holds g v first))))
+              (λ some. absurd (some (value-blank v))))
+              h
+              ∙ sym (value-blank v);
         }
 
     -- a row that is an answer in words is listed
@@ -141,8 +141,8 @@ module _ (m : Meaning) (e : ℕ → Entry) (g : Group) (r : Row) (a : Answered m
     listed_from_words =
         let held = stored-same m g.required (upto g 0 r) r
         (λ v there. upto_part g 0 r v 0 a.long (required_owns g v there) (omega arith)) ∙ a.required in
-        let start = filled_bgp m g.required (upto g 0 r) filled_start held in
-        times_member r (rows_of m e g)
-        (member_filter (passes e g.filter) r (flat_map (extended m e g.blocks) (bgp m g.required)) a.filter
-        (member_flat_map (extended m e g.blocks) r (upto g 0 r) (bgp m g.required) start
+        let start = member-stored m g.required blank (upto g 0 r) completes_start held in
+        times_from_member r (rows_of m e g)
+        (member-filter (passes e g.filter) r (flat_map (extended m e g.blocks) (bgp m g.required)) a.filter
+        (member-flat_map (extended m e g.blocks) r (upto g 0 r) (bgp m g.required) start
         (listed_onward (length g.blocks) 0 (omega arith))))

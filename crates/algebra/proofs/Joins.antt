@@ -2,8 +2,8 @@
 -- store, in the same order. Assumes nothing.
 --     Valid top r     r has sixteen values, each none or a term from 1 to top
 use Rattle.std.proofs.Common.{◌≡◌, ℕ, zero, suc, ◌+◌, ◌<◌, ◌≤◌, ◌≢◌, Bool, true, false, cond, not, ◌&&◌}
-use Rattle.std.proofs.Common.{List, [], ◌∷◌, ◌++◌, map, length, refl, sym, ap, ◌∙◌, arith}
-use Rattle.std.proofs.Common.{⊎_elim, true≢false, replicate, append-nil, subst, eq-eqb, ne_eqb}
+use Rattle.std.proofs.Common.{List, [], ◌∷◌, map, length, refl, sym, ap, ◌∙◌, arith}
+use Rattle.std.proofs.Common.{⊎_elim, true≢false, replicate, subst, eq-eqb, ne_eqb}
 use Rattle.std.proofs.lemmas.Bool.{and_left, and_right, and_from, cases_Bool, cases_eq, cases_lt, cond-false}
 use Rattle.std.specs.List.{filter, flat_map, range_with_len}
 use Rattle.query.specs.declared.pattern.TriplePattern.{TriplePattern}
@@ -15,8 +15,9 @@ use Rattle.algebra.specs.Patterns.{blank, with_value, stored, open_variables, te
 use Rattle.algebra.specs.Algebra.{bgp, agree, compatible, merge}
 use Rattle.algebra.proofs.Lists.{filter-yes, filter-no, filter-flat_map, flat_map-same, map-flat_map}
 use Rattle.algebra.proofs.Lists.{all-weaker}
-use Rattle.algebra.proofs.Rows.{value-with_same, value-with_other, length-with_value, value-past, value-blank}
-use Rattle.algebra.proofs.Rows.{length-blank, has_value-yes, has_value-no, all-range}
+use Rattle.algebra.proofs.Rows.{value-with_same, value-with_other, length-with_value, equal_past, value-blank}
+use Rattle.algebra.proofs.Rows.{length-blank, some_from_has_value, none_from_has_value}
+use Rattle.algebra.proofs.Ranges.{all-range, flat_map-one}
 use Rattle.algebra.proofs.Patterns.{stored-same, open_variables-blank}
 use Rattle.algebra.proofs.Merging.{cond-same, agree-none, agree-values, compatible-with_value}
 use Rattle.algebra.proofs.Merging.{compatible-none, merge-none, merge-free, merge-bound, length-merge}
@@ -27,28 +28,9 @@ pub record Valid (top : ℕ) (r : Row) : Type 0 where
   pub long : length r ≡ variables
   pub small : (v : ℕ) → value r v ≤ top
 
--- flat_map over numbers
+-- flat_map
 
 module _ {A : Type 0} where
-  flat_map-nothing : (f : ℕ → List A) (a n : ℕ) → ((x : ℕ) → a ≤ x → f x ≡ [])
-      → flat_map f (range_with_len a n) ≡ []
-  flat_map-nothing f a zero h = refl
-  flat_map-nothing f a (suc n) h =
-      ap (λ l. l ++ flat_map f (range_with_len (a + 1) n)) (h a (omega arith))
-      ∙ flat_map-nothing f (a + 1) n (λ x l. h x (omega arith))
-
-  -- only one number of the range gives something
-  flat_map-one : (f : ℕ → List A) (y a n : ℕ) → a ≤ y → y < a + n → ((x : ℕ) → a ≤ x → x ≢ y → f x ≡ [])
-      → flat_map f (range_with_len a n) ≡ f y
-  flat_map-one f y a zero low high h = absurd (omega arith)
-  flat_map-one f y a (suc n) low high h =
-      ⊎_elim
-      (λ e. ap (λ l. f a ++ l) (flat_map-nothing f (a + 1) n (λ x l. h x (omega arith) (omega arith)))
-      ∙ append-nil (f a) ∙ ap f e)
-      (λ d. ap (λ l. l ++ flat_map f (range_with_len (a + 1) n)) (h a (omega arith) d)
-      ∙ flat_map-one f y (a + 1) n (omega arith) (omega arith) (λ x l. h x (omega arith)))
-      (cases_eq a y)
-
   flat_map-cond : (b : Bool) (f : ℕ → List A) (xs : List ℕ)
       → flat_map (λ x. cond b (f x) []) xs ≡ cond b (flat_map f xs) []
   flat_map-cond true f xs = refl
@@ -140,8 +122,7 @@ module _ (m : Meaning) (ts : List TriplePattern) (r : Row) where
       → value (merge r s) v ≡ value s v
   begun-values s b c v h =
       ⊎_elim (λ l. value-merge r s v c (b.given v h l))
-      (λ g. value-past (merge r s) v (omega (arith, length-merge r s (sym b.long)))
-      ∙ sym (value-past s v (omega (arith, b.long))))
+      (equal_past (merge r s) s (length r) (length-merge r s (sym b.long)) b.long v)
       (cases_lt v (length r))
 
   -- with no variable left
@@ -202,7 +183,7 @@ module _ (m : Meaning) (ts : List TriplePattern) (r : Row) where
           → merged (among named a (suc n)) s ≡ completed (among lacking a (suc n)) s
       join-bound h k =
           let past = range_with_len (a + 1) n in
-          let has = has_value-yes r a k in
+          let has = some_from_has_value r a k in
           let some : value r a ≢ none = λ z. omega arith in
           ap (λ vs. merged vs s) (filter-yes named a past h)
           ∙ merged-each a (among named (a + 1) n) s
@@ -233,7 +214,7 @@ module _ (m : Meaning) (ts : List TriplePattern) (r : Row) where
           ∙ merged-each a (among named (a + 1) n) s
           ∙ flat_map-same (λ x. merged (among named (a + 1) n) (with_value s a x))
           (λ x. cond (compatible r s) (filter (stored m ts) (each x)) []) (terms m.top)
-          (all-weaker _ _ (λ x l. free-with_value (has_value-no r a k) x l.0) (terms m.top)
+          (all-weaker _ _ (λ x l. free-with_value (none_from_has_value r a k) x l.0) (terms m.top)
           (all-range 1 m.top))
           ∙ flat_map-cond (compatible r s) (λ x. filter (stored m ts) (each x)) (terms m.top)
           ∙ ap (λ l. cond (compatible r s) l []) (sym (filter-flat_map (stored m ts) each (terms m.top)))

@@ -1,12 +1,13 @@
--- Laws of lists by the operation: All, list_any, filter, flat_map, and the weight of a list, which is the total
--- of a number given to each of its elements. Assumes nothing.
+-- Laws of lists by the operation: All, flat_map, filter, the weight of a list, which is the total of a number
+-- given to each of its elements, counts, and drop. Assumes nothing.
 use Rattle.std.proofs.Common.{◌≡◌, ℕ, ◌+◌, Bool, true, false, cond, ◌&&◌, List, [], ◌∷◌, ◌++◌, map}
-use Rattle.std.proofs.Common.{refl, sym, ap, ◌∙◌, subst, ⊎_elim, arith, count_by}
+use Rattle.std.proofs.Common.{refl, sym, ap, ◌∙◌, subst, ⊎_elim, arith, count_by, ◌<◌, suc, length, get_or, drop}
+use Rattle.std.proofs.Math.Seq.{drop-cons}
 use Rattle.std.proofs.lemmas.Bool.{cases_Bool, cond-true, cond-false}
 use Rattle.std.proofs.lemmas.Grind.{flat_map-append}
 use Rattle.std.proofs.lemmas.List.Elements.{filter-append}
 use Rattle.std.proofs.lemmas.List.{map-append}
-use Rattle.std.proofs.lemmas.List.Sums.{sum_by-cons}
+use Rattle.std.proofs.lemmas.List.Sums.{sum_by-cons, sum_by-append}
 use Rattle.std.specs.List.{filter, flat_map, AllByRecursion}
 use Rattle.query.specs.Lawful.{total}
 
@@ -36,15 +37,13 @@ module _ {A : Type 0} where
   all-every P h [] = tt
   all-every P h (x ∷ xs) = (h x, all-every P h xs)
 
-  -- what P and the test give of an element, all have that pass it
-  pub all-filter : (P Q : A → Type 0) (p : A → Bool) → ((x : A) → P x → p x ≡ true → Q x) → (xs : List A)
-      → AllByRecursion P xs
-      → AllByRecursion Q (filter p xs)
-  all-filter P Q p to [] h = tt
-  all-filter P Q p to (x ∷ xs) h =
+  pub all-filter : (P : A → Type 0) (p : A → Bool) (xs : List A) → AllByRecursion P xs
+      → AllByRecursion P (filter p xs)
+  all-filter P p [] h = tt
+  all-filter P p (x ∷ xs) h =
       ⊎_elim
-      (λ t. subst (AllByRecursion Q) (sym (filter-yes p x xs t)) (to x h.0 t, all-filter P Q p to xs h.1))
-      (λ f. subst (AllByRecursion Q) (sym (filter-no p x xs f)) (all-filter P Q p to xs h.1))
+      (λ t. subst (AllByRecursion P) (sym (filter-yes p x xs t)) (h.0, all-filter P p xs h.1))
+      (λ f. subst (AllByRecursion P) (sym (filter-no p x xs f)) (all-filter P p xs h.1))
       (cases_Bool (p x))
 
   pub all-map : {B : Type 0} (P : A → Type 0) (f : B → A) (xs : List B) → AllByRecursion (λ x. P (f x)) xs
@@ -60,16 +59,16 @@ module _ {A : Type 0} where
 -- flat_map
 
 module _ {A B : Type 0} where
-  pub flat_map-like : (f g : A → List B) → ((x : A) → f x ≡ g x) → (xs : List A) → flat_map f xs ≡ flat_map g xs
-  flat_map-like f g e [] = refl
-  flat_map-like f g e (x ∷ xs) = ap (λ ys. ys ++ flat_map f xs) (e x) ∙ ap (λ ys. g x ++ ys) (flat_map-like f g e xs)
-
-  -- the same where f and g agree on the elements
+  -- f and g agree on the elements
   pub flat_map-same : (f g : A → List B) (xs : List A) → AllByRecursion (λ x. f x ≡ g x) xs
       → flat_map f xs ≡ flat_map g xs
   flat_map-same f g [] h = refl
   flat_map-same f g (x ∷ xs) h =
       ap (λ ys. ys ++ flat_map f xs) h.0 ∙ ap (λ ys. g x ++ ys) (flat_map-same f g xs h.1)
+
+  pub flat_map-none : (f : A → List B) (xs : List A) → AllByRecursion (λ x. f x ≡ []) xs → flat_map f xs ≡ []
+  flat_map-none f [] h = refl
+  flat_map-none f (x ∷ xs) h = ap (λ ys. ys ++ flat_map f xs) h.0 ∙ flat_map-none f xs h.1
 
   pub flat_map-flat_map : {C : Type 0} (f : B → List C) (g : A → List B) (xs : List A)
       → flat_map f (flat_map g xs) ≡ flat_map (λ x. flat_map f (g x)) xs
@@ -137,16 +136,8 @@ module _ {A : Type 0} where
   filter-all p [] h = refl
   filter-all p (x ∷ xs) h = filter-yes p x xs h.0 ∙ ap (λ ys. x ∷ ys) (filter-all p xs h.1)
 
-  pub filter-map : {B : Type 0} (p : A → Bool) (f : B → A) (xs : List B)
-      → filter p (map f xs) ≡ map f (filter (λ x. p (f x)) xs)
-  filter-map p f [] = refl
-  filter-map p f (x ∷ xs) =
-      ⊎_elim
-      (λ t. filter-yes p (f x) (map f xs) t ∙ ap (λ ys. f x ∷ ys) (filter-map p f xs)
-      ∙ ap (map f) (sym (filter-yes (λ y. p (f y)) x xs t)))
-      (λ n. filter-no p (f x) (map f xs) n ∙ filter-map p f xs
-      ∙ ap (map f) (sym (filter-no (λ y. p (f y)) x xs n)))
-      (cases_Bool (p (f x)))
+  pub filter-true : (xs : List A) → filter (λ _. true) xs ≡ xs
+  filter-true xs = filter-all (λ _. true) xs (all-every (λ _. true ≡ true) (λ _. refl) xs)
 
 -- weight: the total of a number given to each element
 
@@ -190,9 +181,30 @@ module _ {A : Type 0} (w : A → ℕ) where
   total-zero [] h = refl
   total-zero (x ∷ xs) h = omega (arith, h.0, total-zero xs h.1)
 
--- how many elements pass a test is a weight
+-- count_by
 
-pub count-total : {A : Type 0} (p : A → Bool) (xs : List A) → count_by p xs ≡ total (λ x. cond (p x) 1 0) xs
-count-total p [] = refl
-count-total p (x ∷ xs) =
-    sum_by-cons (λ y. cond (p y) 1 0) x xs ∙ ap (λ n. cond (p x) 1 0 + n) (count-total p xs)
+module _ {A : Type 0} (p : A → Bool) where
+  pub count_by-yes : (x : A) (xs : List A) → p x ≡ true → count_by p (x ∷ xs) ≡ 1 + count_by p xs
+  count_by-yes x xs t =
+      omega (arith, sum_by-cons (λ y. cond (p y) 1 0) x xs, cond-true {A = ℕ} (p x) 1 0 t)
+
+  pub count_by-no : (x : A) (xs : List A) → p x ≡ false → count_by p (x ∷ xs) ≡ count_by p xs
+  count_by-no x xs f =
+      omega (arith, sum_by-cons (λ y. cond (p y) 1 0) x xs, cond-false {A = ℕ} (p x) 1 0 f)
+
+  pub count_by-append : (xs ys : List A) → count_by p (xs ++ ys) ≡ count_by p xs + count_by p ys
+  count_by-append xs ys = sum_by-append (λ x. cond (p x) 1 0) xs ys
+
+  -- how many elements pass is a weight
+  pub count_by-total : (xs : List A) → count_by p xs ≡ total (λ x. cond (p x) 1 0) xs
+  count_by-total [] = refl
+  count_by-total (x ∷ xs) =
+      sum_by-cons (λ y. cond (p y) 1 0) x xs ∙ ap (λ n. cond (p x) 1 0 + n) (count_by-total xs)
+
+-- drop
+
+pub drop-next : {A : Type 0} (xs : List A) (k : ℕ) (d : A) → k < length xs
+    → drop k xs ≡ get_or xs k d ∷ drop (k + 1) xs
+drop-next xs k d low =
+    let next : suc k ≡ k + 1 = omega arith in
+    drop-cons xs k d low ∙ ap (λ j. get_or xs k d ∷ drop j xs) next

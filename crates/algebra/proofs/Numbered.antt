@@ -1,7 +1,7 @@
 -- How often an answer is among the answers of a query: as often as its row is among the solutions of its
 -- alternative. Assumes nothing.
 use Rattle.std.proofs.Common.{◌≡◌, ℕ, zero, suc, ◌+◌, ◌<◌, ◌≤◌, Bool, true, false, cond, ◌&&◌, List, [], ◌∷◌}
-use Rattle.std.proofs.Common.{◌++◌, length, get_or, eqb, refl, sym, ap, ◌∙◌, subst, arith}
+use Rattle.std.proofs.Common.{length, get_or, eqb, refl, sym, ap, ◌∙◌, subst, arith}
 use Rattle.std.proofs.lemmas.Bool.{eq-eqb, ne_eqb}
 use Rattle.catalogue.specs.Entries.{Entry}
 use Rattle.query.specs.Lawful.{total, lawful}
@@ -13,9 +13,9 @@ use Rattle.algebra.specs.Answers.{same_row, times, times_answered}
 use Rattle.algebra.specs.Order.{no_group}
 use Rattle.algebra.specs.Theorems.{OnceInEach}
 use Rattle.algebra.proofs.Counts.{listing_counts}
-use Rattle.algebra.proofs.Lists.{total-append, total-map, total-zero, all-every}
+use Rattle.algebra.proofs.Lists.{total-map, total-zero, all-every, count_by-append, count_by-total}
 use Rattle.algebra.proofs.Ordered.{listing_once}
-use Rattle.algebra.proofs.Rows.{times-total, times_answered-total}
+use Rattle.algebra.proofs.Rows.{answer_of}
 
 -- numbered
 
@@ -23,33 +23,20 @@ use Rattle.algebra.proofs.Rows.{times-total, times_answered-total}
 times-numbered : (x : Answer) (a : ℕ) (rows : List Row) (b : Bool) → eqb x.alternative a ≡ b
     → times_answered x (numbered a rows) ≡ total (λ r. cond (b && same_row x.row r) 1 0) rows
 times-numbered x a rows b same =
-    times_answered-total x (numbered a rows)
-    ∙ total-map (λ y. cond (same_answer x y) 1 0) (λ r. record { alternative = a; row = r }) rows
+    count_by-total (same_answer x) (numbered a rows)
+    ∙ total-map (λ y. cond (same_answer x y) 1 0) (answer_of a) rows
     ∙ ap (λ c. total (λ r. cond (c && same_row x.row r) 1 0) rows) same
 
 times-numbered_own : (x : Answer) (a : ℕ) (rows : List Row) → x.alternative ≡ a
     → times_answered x (numbered a rows) ≡ times x.row rows
 times-numbered_own x a rows own =
-    times-numbered x a rows true (eq-eqb x.alternative a own) ∙ sym (times-total x.row rows)
+    times-numbered x a rows true (eq-eqb x.alternative a own) ∙ sym (count_by-total (same_row x.row) rows)
 
 times-numbered_other : (x : Answer) (a : ℕ) (rows : List Row) → (x.alternative ≡ a → ⊥)
     → times_answered x (numbered a rows) ≡ 0
 times-numbered_other x a rows other =
     times-numbered x a rows false (ne_eqb x.alternative a other)
     ∙ total-zero (λ _. 0) rows (all-every (λ _. ◌≡◌ {A = ℕ} 0 0) (λ _. refl) rows)
-
--- ++
-
-times_answered-append : (x : Answer) (xs ys : List Answer)
-    → times_answered x (xs ++ ys) ≡ times_answered x xs + times_answered x ys
-times_answered-append x xs ys =
-    omega (
-      arith,
-      times_answered-total x (xs ++ ys),
-      times_answered-total x xs,
-      times_answered-total x ys,
-      total-append (λ y. cond (same_answer x y) 1 0) xs ys,
-    )
 
 -- answers_from
 
@@ -58,7 +45,7 @@ module _ (m : Meaning) (e : ℕ → Entry) (x : Answer) where
       → times_answered x (answers_from m e a (g ∷ gs))
       ≡ times_answered x (numbered a (solutions m e g)) + times_answered x (answers_from m e (a + 1) gs)
   times-next a g gs =
-      times_answered-append x (numbered a (solutions m e g)) (answers_from m e (a + 1) gs)
+      count_by-append (same_answer x) (numbered a (solutions m e g)) (answers_from m e (a + 1) gs)
 
   -- no answer has a lower number
   times-below : (a : ℕ) (gs : List Group) → x.alternative < a → times_answered x (answers_from m e a gs) ≡ 0

@@ -17,16 +17,17 @@ use Rattle.filter.specs.Filters.{passes}
 use Rattle.algebra.specs.Patterns.{blank, stored, completions, open_variables}
 use Rattle.algebra.specs.Answers.{Answer, numbered, same_row, same_answer, times, times_answered}
 use Rattle.algebra.specs.Order.{parts_of, no_group, Before, Precedes, Ascending}
-use Rattle.algebra.proofs.Lists.{all-every, all-append, all-map, all-weaker}
-use Rattle.algebra.proofs.Rows.{length-blank, same_row-true, same_answer-true}
+use Rattle.algebra.proofs.Lists.{all-every, all-append, all-map, all-filter, all-weaker}
+use Rattle.algebra.proofs.Rows.{length-blank, equal_from_same_row, equal_from_same_answer, equal_past, answer_of}
 use Rattle.algebra.proofs.Listing.{fitting, or_itself, extended, rows_of, answers_of_from, answers_of}
 use Rattle.algebra.proofs.Ascents.{ascending-append, ascending-filter, ascending-map, ascending-weaker}
-use Rattle.algebra.proofs.Ascents.{ascending-flat_map, ascending-once}
-use Rattle.algebra.proofs.Flat.{same-past, Less, lowest-kept}
+use Rattle.algebra.proofs.Ascents.{ascending-flat_map, count_by-ascending}
+use Rattle.algebra.proofs.Flat.{Less, lowest-kept}
 use Rattle.algebra.proofs.Blocks.{in_blocks, Kept, Fitted, kept-self, kept-value, fitted-lowest}
-use Rattle.algebra.proofs.Blocks.{fitting-fitted, fitting-ascends, stored-fitted, stored-ascends}
-use Rattle.algebra.proofs.Blocks.{extended-kept}
-use Rattle.algebra.proofs.Orders.{Ahead, ahead-first, ahead-later, before-ahead, before-never, same-answer}
+use Rattle.algebra.proofs.Blocks.{fitted-completions, extended-kept}
+use Rattle.algebra.proofs.Completions.{ascending-completions}
+use Rattle.algebra.proofs.Fitting.{all-fitting, ascending-fitting}
+use Rattle.algebra.proofs.Orders.{Ahead, ahead-first, ahead-later, before-ahead, before-never}
 use Rattle.algebra.proofs.Orders.{precedes-never}
 
 -- what blocks make of rows
@@ -42,7 +43,7 @@ settled-same : (ts : List TriplePattern) (bs : List Part) (r : Row) → length r
 settled-same ts bs r h settled s t k l v m =
     ⊎_elim
     (λ small. k.same v (settled v small m) ∙ sym (l.same v (settled v small m)))
-    (same-past s t (k.long ∙ h) (l.long ∙ h) v)
+    (equal_past s t variables (k.long ∙ h) (l.long ∙ h) v)
     (cases_lt v variables)
 
 settled-kept : (ts : List TriplePattern) (bs : List Part) (r : Row) → length r ≡ variables → Settled ts bs r
@@ -133,8 +134,10 @@ module _ (m : Meaning) (e : ℕ → Entry) (ts : List TriplePattern) where
       (λ s f. extended-ascends bs (k + 1) s (f.long ∙ h)
       (λ v small t. kept-value (λ w. mentions w b.triples) r s f v (given v small t))
       (apart-rest ts b bs apart))
-      (fitting m (passes e b.filter) b.triples r) (fitting-fitted m (passes e b.filter) b.triples r h)
-      (fitting-ascends m (passes e b.filter) b.triples r h)
+      (fitting m (passes e b.filter) b.triples r)
+      (all-fitting (Fitted b.triples r) m (passes e b.filter) b.triples r (fitted-completions b.triples r m.top h))
+      (ascending-fitting (Less (open_variables b.triples r)) m (passes e b.filter) b.triples r
+      (ascending-completions m.top b.triples r h))
 
 -- the rows of an alternative
 
@@ -160,14 +163,17 @@ rows-ascend m e g h =
     ascending-filter (Before g) (passes e g.filter) all
     (ascending-weaker (Ahead 0 (parts_of g)) (λ _. Unit {0}) (Before g) (λ r s _ _. before-ahead g r s) all
     (all-every (λ _. Unit {0}) (λ _. tt) all)
-    (ascending-fitted m e 0 g.required g.blocks blank long each rows (stored-fitted m g.required blank long)
-    (stored-ascends m g.required blank long)))
+    (ascending-fitted m e 0 g.required g.blocks blank long each rows
+    (all-filter (Fitted g.required blank) (stored m g.required) (completions m.top g.required blank)
+    (fitted-completions g.required blank m.top long))
+    (ascending-filter (Less (open_variables g.required blank)) (stored m g.required)
+    (completions m.top g.required blank) (ascending-completions m.top g.required blank long))))
 
 -- an alternative has no row twice
 pub rows_once : (m : Meaning) (e : ℕ → Entry) (g : Group) → shares g ≡ false → (r : Row)
     → times r (rows_of m e g) ≤ 1
 rows_once m e g h r =
-    ascending-once (Before g) same_row same_row-true (before-never g) r (rows_of m e g) (rows-ascend m e g h)
+    count_by-ascending (Before g) same_row equal_from_same_row (before-never g) r (rows_of m e g) (rows-ascend m e g h)
 
 -- the answers of a query
 
@@ -178,7 +184,7 @@ module _ (m : Meaning) (e : ℕ → Entry) where
   answers-from a [] = tt
   answers-from a (g ∷ gs) =
       all-append (λ x. a ≤ x.alternative) (numbered a (rows_of m e g)) (answers_of_from m e (a + 1) gs)
-      (all-map (λ x. a ≤ x.alternative) (λ r. record { alternative = a; row = r }) (rows_of m e g)
+      (all-map (λ x. a ≤ x.alternative) (answer_of a) (rows_of m e g)
       (all-every (λ _. a ≤ a) (λ _. omega arith) (rows_of m e g)))
       (all-weaker (λ x. a + 1 ≤ x.alternative) (λ x. a ≤ x.alternative) (λ x h. omega (arith, h))
       (answers_of_from m e (a + 1) gs) (answers-from (a + 1) gs))
@@ -187,10 +193,10 @@ module _ (m : Meaning) (e : ℕ → Entry) where
     numbered-ascend : (a : ℕ) (rows : List Row) → Ascending (Before (slice_index_or q a no_group)) rows
         → Ascending (Precedes q) (numbered a rows)
     numbered-ascend a rows h =
-        let of : Row → Answer = (λ r. record { alternative = a; row = r }) in
+        let of : Row → Answer = (answer_of a) in
         ascending-map (Precedes q) of rows
         (ascending-weaker (Before (slice_index_or q a no_group)) (λ _. Unit {0})
-        (λ r s. Precedes q (of r) (of s)) (λ r s _ _ b. inr (refl, b)) rows
+        (λ r s. Precedes q (answer_of a r) (answer_of a s)) (λ r s _ _ b. inr (refl, b)) rows
         (all-every (λ _. Unit {0}) (λ _. tt) rows) h)
 
     answers-ascend : (a : ℕ) (gs : List Group)
@@ -207,10 +213,10 @@ module _ (m : Meaning) (e : ℕ → Entry) where
         (subst (λ k. Ascending (Before k) (rows_of m e g)) (sym here) (rows-ascend m e g parts.0)))
         (answers-ascend (a + 1) gs
         (λ i. ap (λ j. slice_index_or q j no_group) (omega arith) ∙ is (suc i)) parts.1)
-        (all-map (λ x. AllByRecursion (Precedes q x) later) (λ r. record { alternative = a; row = r })
+        (all-map (λ x. AllByRecursion (Precedes q x) later) (answer_of a)
         (rows_of m e g)
-        (all-every (λ r. AllByRecursion (Precedes q (record { alternative = a; row = r })) later)
-        (λ r. all-weaker (λ x. a + 1 ≤ x.alternative) (Precedes q (record { alternative = a; row = r }))
+        (all-every (λ r. AllByRecursion (Precedes q (answer_of a r)) later)
+        (λ r. all-weaker (λ x. a + 1 ≤ x.alternative) (Precedes q (answer_of a r))
         (λ x l. inl (omega (arith, l))) later (answers-from (a + 1) gs))
         (rows_of m e g)))
 
@@ -224,6 +230,5 @@ listing_ascends m e q h =
 pub listing_once : (m : Meaning) (e : ℕ → Entry) (q : List Group) → lawful q ≡ true → (a : Answer)
     → times_answered a (answers_of m e q) ≤ 1
 listing_once m e q h a =
-    ascending-once (Precedes q) same_answer
-    (λ x y t. let parts = same_answer-true x y t in same-answer x y parts.0 parts.1) (precedes-never q) a
-    (answers_of m e q) (listing_ascends m e q h)
+    count_by-ascending (Precedes q) same_answer
+    equal_from_same_answer (precedes-never q) a (answers_of m e q) (listing_ascends m e q h)

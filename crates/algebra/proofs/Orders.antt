@@ -1,9 +1,9 @@
 -- The order in which answers come. Assumes nothing.
 --     Ahead k parts r s     Before, of a list of parts counted from k
-use Rattle.std.proofs.Common.{◌≡◌, ℕ, ◌+◌, ◌<◌, ◌≤◌, true, false, ◌⊎◌, List, [], ◌∷◌, length}
-use Rattle.std.proofs.Common.{slice_index_or, Option, Some, None, inl, inr, ⊎_elim, refl, sym, ap, ap₂, ◌∙◌}
+use Rattle.std.proofs.Common.{◌≡◌, ℕ, ◌+◌, ◌<◌, true, ◌⊎◌, List, [], ◌∷◌, length}
+use Rattle.std.proofs.Common.{slice_index_or, Option, Some, None, inl, inr, ⊎_elim, refl, sym, ap, ◌∙◌}
 use Rattle.std.proofs.Common.{subst, subst₂, lt_trans, arith}
-use Rattle.std.proofs.lemmas.Bool.{cases_Bool, cases_eq, cases_lt, cond-true, cond-false}
+use Rattle.std.proofs.lemmas.Bool.{cases_Bool, cases_eq, cases_lt}
 use Rattle.catalogue.specs.Entries.{Entry}
 use Rattle.query.specs.declared.pattern.TriplePattern.{TriplePattern}
 use Rattle.query.specs.Lawful.{mentions}
@@ -15,8 +15,9 @@ use Rattle.algebra.specs.Answers.{Answer}
 use Rattle.algebra.specs.Order.{parts_of, part_from, part_of, no_group, Before, Precedes}
 use Rattle.algebra.specs.Words.{Answered}
 use Rattle.algebra.specs.Theorems.{OrderIsTotal}
-use Rattle.algebra.proofs.Rows.{row-from_values}
-use Rattle.algebra.proofs.Flat.{same-past, Lowest, lowest-cases}
+use Rattle.algebra.proofs.Rows.{row_from_values, equal_past, answer_from_parts}
+use Rattle.algebra.proofs.Owners.{part_from-yes, part_from-no, part_from_holds, first_holds}
+use Rattle.algebra.proofs.Flat.{Lowest, lowest-cases}
 
 -- among rows over the parts, of which the first has the number k, r comes before s
 pub record Ahead (k : ℕ) (parts : List (List TriplePattern)) (r s : Row) : Type 0 where
@@ -37,36 +38,7 @@ before-ahead g r s a = record {
   lower = a.lower;
 }
 
--- part_from
-
-module _ (v k : ℕ) (ts : List TriplePattern) (parts : List (List TriplePattern)) where
-  part_from-yes : mentions v ts ≡ true → part_from v k (ts ∷ parts) ≡ Some k
-  part_from-yes t = cond-true (mentions v ts) (Some k) (part_from v (k + 1) parts) t
-
-  part_from-no : mentions v ts ≡ false → part_from v k (ts ∷ parts) ≡ part_from v (k + 1) parts
-  part_from-no f = cond-false (mentions v ts) (Some k) (part_from v (k + 1) parts) f
-
-some-equal : (x y : ℕ) → ◌≡◌ {A = Option ℕ} (Some x) (Some y) → x ≡ y
-some-equal x y e = cc
-
--- the number of a part is one of those counted
-part_from-low : (v k p : ℕ) (parts : List (List TriplePattern)) → part_from v k parts ≡ Some p → k ≤ p
-part_from-low v k p [] e = absurd cc
-part_from-low v k p (ts ∷ parts) e =
-    ⊎_elim
-    (λ t. let same = some-equal k p (sym (part_from-yes v k ts parts t) ∙ e) in omega arith)
-    (λ f. let h = part_from-low v (k + 1) p parts (sym (part_from-no v k ts parts f) ∙ e) in omega arith)
-    (cases_Bool (mentions v ts))
-
 module _ (k : ℕ) (ts : List TriplePattern) (parts : List (List TriplePattern)) (r s : Row) where
-  -- a variable of the first part, or of none before
-  part_from-first : (w : ℕ) → part_from w k (ts ∷ parts) ≡ Some k → mentions w ts ≡ true
-  part_from-first w e =
-      ⊎_elim (λ t. t)
-      (λ f. let low = part_from-low w (k + 1) k parts (sym (part_from-no w k ts parts f) ∙ e) in
-      absurd (omega (arith, low)))
-      (cases_Bool (mentions w ts))
-
   -- the rows differ first within the first part
   pub ahead-first : Lowest 0 (λ v. mentions v ts) r s → Ahead k (ts ∷ parts) r s
   ahead-first l = record {
@@ -74,8 +46,8 @@ module _ (k : ℕ) (ts : List TriplePattern) (parts : List (List TriplePattern))
     variable = l.variable;
     own = part_from-yes l.variable k ts parts l.own;
     smaller = l.smaller;
-    earlier = λ w p e h. let low = part_from-low w k p (ts ∷ parts) e in absurd (omega (arith, low));
-    lower = λ w e h. l.lower w (part_from-first w e) (omega arith) h;
+    earlier = λ w p e h. let (i, at, _, _) = part_from_holds w k (ts ∷ parts) p e in absurd (omega (arith, h, at));
+    lower = λ w e h. l.lower w (first_holds w k ts parts e) (omega arith) h;
   }
 
   -- the rows do not differ within the first part
@@ -188,7 +160,7 @@ module _ (r s : Row) (one : length r ≡ variables) (two : length s ≡ variable
   ahead-cases k (ts ∷ parts) =
       ⊎_elim
       (λ agree. let same : (v : ℕ) → mentions v ts ≡ true → value r v ≡ value s v =
-      (λ v t. ⊎_elim (agree v t (omega arith)) (same-past r s one two v) (cases_lt v variables)) in
+      (λ v t. ⊎_elim (agree v t (omega arith)) (equal_past r s variables one two v) (cases_lt v variables)) in
       ⊎_elim
       (λ rest. inl (λ v p e. same-unless k ts parts r s same v (Some p) e (rest v p)))
       (⊎_elim
@@ -208,15 +180,11 @@ module _ (r s : Row) (one : length r ≡ variables) (two : length s ≡ variable
       (λ same. let by : (v : ℕ) (o : Option ℕ) → part_of g v ≡ o → value r v ≡ value s v =
       (λ v o. elim o as (λ o. part_of g v ≡ o → value r v ≡ value s v)
       [ None ↦ λ e. h v e ∙ sym (k v e) | Some p ↦ λ e. same v p e ]) in
-      inl (row-from_values r s (one ∙ sym two) (λ v. by v (part_of g v) refl)))
+      inl (row_from_values r s (one ∙ sym two) (λ v. by v (part_of g v) refl)))
       (⊎_elim (λ a. inr (inl (before-ahead g r s a))) (λ a. inr (inr (before-ahead g s r a))))
       (ahead-cases 0 (parts_of g))
 
 -- Precedes
-
-pub same-answer : (a b : Answer) → a.alternative ≡ b.alternative → a.row ≡ b.row → a ≡ b
-same-answer a b p q =
-    let of : ℕ → Row → Answer = (λ n r. record { alternative = n; row = r }) in ap₂ of p q
 
 module _ (q : List Group) where
   -- the alternative of an answer
@@ -246,7 +214,7 @@ module _ (q : List Group) where
         (λ l. inr (inl (inl l)))
         (λ l. ⊎_elim
         (λ i. ⊎_elim
-        (λ r. inl (same-answer a b i r))
+        (λ r. inl (answer_from_parts a b i r))
         (⊎_elim (λ c. inr (inl (inr (i, c))))
         (λ c. inr (inr (inr (sym i, subst (λ n. Before (group n) b.row a.row) i c)))))
         (before-cases a.row b.row h.long k.long (group a.alternative) h.others

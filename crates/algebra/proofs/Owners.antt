@@ -1,6 +1,6 @@
 -- To which part of an alternative a variable belongs. Assumes nothing.
 use Rattle.std.proofs.Common.{◌≡◌, ℕ, zero, suc, ◌+◌, ◌<◌, ◌≤◌, Bool, true, false, not, ◌&&◌, ◌⊎◌, List, []}
-use Rattle.std.proofs.Common.{◌∷◌, map, length, get_or, Some, sym, ap, ◌∙◌, subst, inl, inr, ⊎_elim, arith}
+use Rattle.std.proofs.Common.{◌∷◌, map, length, get_or, Some, Option, sym, ap, ◌∙◌, subst, inl, inr, ⊎_elim, arith}
 use Rattle.std.proofs.Math.ListN.{length-map, get_or-map}
 use Rattle.std.proofs.lemmas.Bool.{cases_Bool, both_ways, cases_lt, cond-true, cond-false, and_from, or_left}
 use Rattle.std.proofs.lemmas.Bool.{or_right, not_from_false}
@@ -16,32 +16,47 @@ use Rattle.algebra.specs.Words.{no_part}
 
 -- part_from
 
+module _ (v p : ℕ) (ts : List TriplePattern) (parts : List (List TriplePattern)) where
+  pub part_from-yes : mentions v ts ≡ true → part_from v p (ts ∷ parts) ≡ Some p
+  part_from-yes t = cond-true (mentions v ts) (Some p) (part_from v (p + 1) parts) t
+
+  pub part_from-no : mentions v ts ≡ false → part_from v p (ts ∷ parts) ≡ part_from v (p + 1) parts
+  part_from-no f = cond-false (mentions v ts) (Some p) (part_from v (p + 1) parts) f
+
+-- two parts of one variable are the same
+pub same_part : (o : Option ℕ) (j k : ℕ) → o ≡ Some j → o ≡ Some k → j ≡ k
+same_part o j k e f = cc
+
 -- the part is one of them, and its triples hold the variable
 pub part_from_holds : (v p : ℕ) (parts : List (List TriplePattern)) (k : ℕ) → part_from v p parts ≡ Some k
     → (i : ℕ) × (k ≡ p + i) × (i < length parts) × (mentions v (get_or parts i []) ≡ true)
 part_from_holds v p [] k h = cc
 part_from_holds v p (ts ∷ parts) k h =
     ⊎_elim
-    (λ t. let e : Some p ≡ Some k =
-    sym (cond-true (mentions v ts) (Some p) (part_from v (p + 1) parts) t) ∙ h in
-    let at : p ≡ k = cc in
-    (0, omega arith, omega arith, t))
-    (λ f. let e = sym (cond-false (mentions v ts) (Some p) (part_from v (p + 1) parts) f) ∙ h in
-    let (i, at, low, t) = part_from_holds v (p + 1) parts k e in
-    (suc i, omega arith, omega arith, t))
+    (λ t. let at = same_part (part_from v p (ts ∷ parts)) p k (part_from-yes v p ts parts t) h in
+    (0, omega (arith, at), omega arith, t))
+    (λ f. let (i, at, low, t) = part_from_holds v (p + 1) parts k (sym (part_from-no v p ts parts f) ∙ h) in
+    (suc i, omega (arith, at), omega (arith, low), t))
     (cases_Bool (mentions v ts))
+
+-- what belongs to the first part is in its triples
+pub first_holds : (v p : ℕ) (ts : List TriplePattern) (parts : List (List TriplePattern))
+    → part_from v p (ts ∷ parts) ≡ Some p → mentions v ts ≡ true
+first_holds v p ts parts h =
+    let (i, at, low, t) = part_from_holds v p (ts ∷ parts) p h in
+    let first : i ≡ 0 = omega (arith, at) in
+    subst (λ k. mentions v (get_or (ts ∷ parts) k []) ≡ true) first t
 
 -- a variable in a part's triples belongs to that part or to one before it
 pub part_from_first : (v p : ℕ) (parts : List (List TriplePattern)) (i : ℕ) → i < length parts
     → mentions v (get_or parts i []) ≡ true → (k : ℕ) × (part_from v p parts ≡ Some k) × (k ≤ p + i)
 part_from_first v p [] i low t = absurd (omega arith)
-part_from_first v p (ts ∷ parts) zero low t =
-    (p, cond-true (mentions v ts) (Some p) (part_from v (p + 1) parts) t, omega arith)
+part_from_first v p (ts ∷ parts) zero low t = (p, part_from-yes v p ts parts t, omega arith)
 part_from_first v p (ts ∷ parts) (suc i) low t =
     ⊎_elim
-    (λ w. (p, cond-true (mentions v ts) (Some p) (part_from v (p + 1) parts) w, omega arith))
+    (λ w. (p, part_from-yes v p ts parts w, omega arith))
     (λ w. let (k, e, high) = part_from_first v (p + 1) parts i (omega arith) t in
-    (k, cond-false (mentions v ts) (Some p) (part_from v (p + 1) parts) w ∙ e, omega arith))
+    (k, part_from-no v p ts parts w ∙ e, omega arith))
     (cases_Bool (mentions v ts))
 
 -- in_two
@@ -64,24 +79,18 @@ block_at g i = get_or g.blocks i no_part
 
 -- what belongs to part 0 is in the required triples
 pub required_holds : (g : Group) (v : ℕ) → part_of g v ≡ Some 0 → mentions v g.required ≡ true
-required_holds g v h =
-    let (i, at, low, t) = part_from_holds v 0 (parts_of g) 0 h in
-    let first : i ≡ 0 = omega arith in
-    subst (λ k. mentions v (get_or (parts_of g) k []) ≡ true) first t
+required_holds g v = first_holds v 0 g.required (map (λ b. b.triples) g.blocks)
 
 pub required_owns : (g : Group) (v : ℕ) → mentions v g.required ≡ true → part_of g v ≡ Some 0
-required_owns g v t =
-    cond-true (mentions v g.required) (Some 0) (part_from v 1 (map (λ b. b.triples) g.blocks)) t
+required_owns g v = part_from-yes v 0 g.required (map (λ b. b.triples) g.blocks)
 
 -- what belongs to part i + 1 is in the triples of block i, and not in the required triples
 pub block_holds : (g : Group) (i v : ℕ) → part_of g v ≡ Some (i + 1)
     → (i < length g.blocks) × (mentions v (block_at g i).triples ≡ true) × (mentions v g.required ≡ false)
 block_holds g i v h =
     ⊎_elim
-    (λ t. let e : Some (i + 1) ≡ Some 0 = sym h ∙ required_owns g v t in
-    let never : i + 1 ≡ 0 = cc in absurd (omega arith))
-    (λ f. let rest = sym (cond-false (mentions v g.required) (Some 0)
-    (part_from v 1 (map (λ b. b.triples) g.blocks)) f) ∙ h in
+    (λ t. let never = same_part (part_of g v) (i + 1) 0 h (required_owns g v t) in absurd (omega (arith, never)))
+    (λ f. let rest = sym (part_from-no v 0 g.required (map (λ b. b.triples) g.blocks) f) ∙ h in
     let (k, at, low, t) = part_from_holds v 1 (map (λ b. b.triples) g.blocks) (i + 1) rest in
     let here : k ≡ i = omega arith in (
       omega (arith, length-map g.blocks (λ (b : Part). b.triples)),

@@ -16,10 +16,11 @@ use Rattle.algebra.specs.Patterns.{with_value, stored, open_variables, terms, as
 use Rattle.algebra.specs.Admissions.{Admission, Completes, Lawful}
 use Rattle.algebra.specs.Walk.{Mark, try, answers, admitted, walk_through, walk_part}
 use Rattle.algebra.specs.Theorems.{WalkTakesTheLowest}
-use Rattle.algebra.proofs.Lists.{all-weaker, all-every, all-filter, flat_map-same, flat_map-filter}
-use Rattle.algebra.proofs.Lists.{filter-flat_map, filter-filter, filter-none, filter-all}
+use Rattle.algebra.proofs.Lists.{all-weaker, all-filter, flat_map-same, flat_map-filter}
+use Rattle.algebra.proofs.Lists.{filter-flat_map, filter-filter, filter-none, filter-true}
 use Rattle.algebra.proofs.Rows.{length-with_value}
-use Rattle.algebra.proofs.Assignments.{all-terms, open-rest, completions-complete}
+use Rattle.algebra.proofs.Assignments.{all-terms}
+use Rattle.algebra.proofs.Completions.{open_variables-rest, all-completions}
 use Rattle.algebra.proofs.Listing.{fitting}
 use Rattle.algebra.proofs.Marks.{answers-flat_map, answers-answer_if}
 
@@ -44,7 +45,7 @@ module _ (m : Meaning) (p : Row → Bool) (admits : Admission) (law : Protects m
       → filter p (filter fits (completions m.top ts (with_value r v x))) ≡ []
   nothing_lost r v x long term left =
       let rows = completions m.top ts (with_value r v x) in
-      let complete = completions-complete m.top ts (with_value r v x) (length-with_value r v x ∙ long) in
+      let complete = all-completions m.top ts (with_value r v x) (length-with_value r v x ∙ long) in
       filter-filter p fits rows
       ∙ filter-none (λ s. fits s && p s) rows
       (all-weaker (Completes m.top ts (with_value r v x)) (λ s. (fits s && p s) ≡ false)
@@ -64,7 +65,7 @@ module _ (m : Meaning) (p : Row → Bool) (admits : Admission) (law : Protects m
       let each : (x : ℕ) → Term m.top x
       → cond (admits ts r v x) (filter p (answers (after x))) [] ≡ filter p (filter fits (rows x)) =
       λ x term.
-      let rest = open-rest ts r v x vs long e term.positive in
+      let rest = open_variables-rest ts r v x vs long e term.positive in
       ⊎_elim
       (λ t. cond-true (admits ts r v x) (filter p (answers (after x))) [] t
       ∙ filter-walk_through vs (with_value r v x) (length-with_value r v x ∙ long) rest)
@@ -98,17 +99,12 @@ walk_takes_the_lowest m admits test ts r v vs long e =
     ap (λ ws. through ws r) e
     ∙ flat_map-same (λ x. try v x ∷ through vs (with_value r v x)) (λ x. try v x ∷ part (with_value r v x))
     (admitted m admits ts r v)
-    (all-filter (Term m.top)
+    (all-weaker (Term m.top)
     (λ x. ◌≡◌ {A = List (Mark Row)} (try v x ∷ through vs (with_value r v x))
     (try v x ∷ part (with_value r v x)))
-    (admits ts r v)
-    (λ x term _. ap (λ ws. try v x ∷ through ws (with_value r v x))
-    (sym (open-rest ts r v x vs long e term.positive)))
-    (terms m.top) (all-terms m.top))
-
--- a test that is always true leaves all rows
-pub filter-true : (rows : List Row) → filter (λ _. true) rows ≡ rows
-filter-true rows = filter-all (λ _. true) rows (all-every (λ _. true ≡ true) (λ _. refl) rows)
+    (λ x term. ap (λ ws. try v x ∷ through ws (with_value r v x))
+    (sym (open_variables-rest ts r v x vs long e term.positive)))
+    (admitted m admits ts r v) (all-filter (Term m.top) (admits ts r v) (terms m.top) (all-terms m.top)))
 
 -- under a lawful admission the walk of a part answers the completions that it fits
 pub answers-walk_part : (m : Meaning) (admits : Admission) → Lawful m admits → (test : Row → Bool)

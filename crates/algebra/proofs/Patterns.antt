@@ -27,14 +27,22 @@ number_at-same (Term t) r s same = refl
 abbrev pub in_triple : ℕ → TriplePattern → Bool
 in_triple v t = is_variable v t.subject || (is_variable v t.property || is_variable v t.object)
 
-pub triple_under-same : (t : TriplePattern) (r s : Row)
+module _ (v : ℕ) (t : TriplePattern) where
+  pub in_subject : is_variable v t.subject ≡ true → in_triple v t ≡ true
+  in_subject h = or_left _ _ h
+
+  pub in_property : is_variable v t.property ≡ true → in_triple v t ≡ true
+  in_property h = or_right (is_variable v t.subject) _ (or_left _ _ h)
+
+  pub in_object : is_variable v t.object ≡ true → in_triple v t ≡ true
+  in_object h = or_right (is_variable v t.subject) _ (or_right (is_variable v t.property) _ h)
+
+triple_under-same : (t : TriplePattern) (r s : Row)
     → ((v : ℕ) → in_triple v t ≡ true → value r v ≡ value s v) → triple_under r t ≡ triple_under s t
 triple_under-same t r s same =
-    let subject = number_at-same t.subject r s (λ v h. same v (or_left (is_variable v t.subject) _ h)) in
-    let property = number_at-same t.property r s
-    (λ v h. same v (or_right (is_variable v t.subject) _ (or_left (is_variable v t.property) _ h))) in
-    let object = number_at-same t.object r s
-    (λ v h. same v (or_right (is_variable v t.subject) _ (or_right (is_variable v t.property) _ h))) in
+    let subject = number_at-same t.subject r s (λ v h. same v (in_subject v t h)) in
+    let property = number_at-same t.property r s (λ v h. same v (in_property v t h)) in
+    let object = number_at-same t.object r s (λ v h. same v (in_object v t h)) in
     cc
 
 -- stored

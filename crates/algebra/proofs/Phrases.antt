@@ -1,11 +1,10 @@
 -- Laws of what the words on an answer name: the variables reached, and a row with the values of the first
 -- parts alone. Assumes nothing.
 use Rattle.std.proofs.Common.{refl, ◌≡◌, ℕ, ◌+◌, ◌<◌, ◌≤◌, true, false, cond, ◌⊎◌, zero, suc, length, Some}
-use Rattle.std.proofs.Common.{None, Option, sym, ap, ◌∙◌, subst, inl, inr, ⊎_elim, arith}
+use Rattle.std.proofs.Common.{None, Option, sym, ap, ◌∙◌, inl, inr, ⊎_elim, arith}
 use Rattle.std.proofs.lemmas.Bool.{both_ways, cases_Bool, cases_lt, cond-true, cond-false, leb-true, le-leb}
 use Rattle.std.proofs.lemmas.Bool.{lt-leb}
-use Rattle.std.proofs.lemmas.List.{get_or_past, ext_get_or}
-use Rattle.std.proofs.lemmas.List.FromFn.{get_or-map-range_with_len, length-map-range_with_len}
+use Rattle.std.proofs.lemmas.List.FromFn.{length-map-range_with_len}
 use Rattle.query.specs.declared.pattern.TriplePattern.{}
 use Rattle.query.specs.declared.place.Place.{}
 use Rattle.query.specs.Lawful.{}
@@ -16,6 +15,7 @@ use Rattle.filter.specs.Rows.{Row, none, value}
 use Rattle.algebra.specs.Patterns.{}
 use Rattle.algebra.specs.Order.{part_of}
 use Rattle.algebra.specs.Words.{reached, upto}
+use Rattle.algebra.proofs.Rows.{value-map, value-past, equal_past, row_from_values}
 
 -- reached
 
@@ -63,18 +63,16 @@ module _ (g : Group) (p : ℕ) (r : Row) where
 
   upto_at : (v : ℕ) → v < variables
       → value (upto g p r) v ≡ cond (reached p (part_of g v)) (value r v) none
-  upto_at v low =
-      get_or-map-range_with_len (λ w. cond (reached p (part_of g w)) (value r w) none) 0 variables v v none
-      low (omega arith)
+  upto_at v = value-map (λ w. cond (reached p (part_of g w)) (value r w) none) variables v
 
   pub upto_past : (v : ℕ) → variables ≤ v → value (upto g p r) v ≡ none
-  upto_past v high = get_or_past (upto g p r) v none (subst (λ n. n ≤ v) (sym length-upto) high)
+  upto_past v high = value-past (upto g p r) v (omega (arith, length-upto, high))
 
   pub upto_kept : (v : ℕ) → length r ≡ variables → reached p (part_of g v) ≡ true
       → value (upto g p r) v ≡ value r v
   upto_kept v long h =
       ⊎_elim (λ low. upto_at v low ∙ cond-true (reached p (part_of g v)) (value r v) none h)
-      (λ high. upto_past v high ∙ sym (get_or_past r v none (subst (λ n. n ≤ v) (sym long) high)))
+      (equal_past (upto g p r) r variables length-upto long v)
       (cases_lt v variables)
 
   -- the value of a variable of the part k
@@ -92,6 +90,6 @@ module _ (g : Group) (p : ℕ) (r : Row) where
       → ((v : ℕ) → reached p (part_of g v) ≡ true → value r v ≡ value s v)
       → ((v : ℕ) → reached p (part_of g v) ≡ false → value s v ≡ none) → upto g p r ≡ s
   upto_is s long too same later =
-      ext_get_or none (upto g p r) s (length-upto ∙ sym too)
-      (λ v _. ⊎_elim (λ t. upto_kept v long t ∙ same v t) (λ f. upto_dropped v f ∙ sym (later v f))
+      row_from_values (upto g p r) s (length-upto ∙ sym too)
+      (λ v. ⊎_elim (λ t. upto_kept v long t ∙ same v t) (λ f. upto_dropped v f ∙ sym (later v f))
       (cases_Bool (reached p (part_of g v))))

@@ -1,142 +1,82 @@
 -- The two admissions that are always to be had keep the law. Assumes nothing.
---     taken vs s r        the row r with the values that s gives the variables vs
+--     lent r s t          the row r with the values that s gives the variables of the pattern t
 --     pruners_lawful      every term, and the look-ahead, are lawful
-use Rattle.std.proofs.Common.{◌≡◌, ℕ, zero, suc, ◌+◌, ◌<◌, ◌≤◌, Bool, true, false, not, ◌&&◌, ◌||◌, ◌≢◌}
-use Rattle.std.proofs.Common.{List, [], ◌∷◌, length, refl, sym, ap, ◌∙◌, subst, inl, inr, ⊎_elim, arith, leb}
-use Rattle.std.proofs.lemmas.Bool.{cases_Bool, cases_eq, cases_lt, and_parts, and_from, or_left}
-use Rattle.std.proofs.lemmas.Bool.{or_right, le-leb, leb-true, both_ways, not-true}
-use Rattle.std.proofs.lemmas.List.Folds.{list_any-append}
-use Rattle.std.specs.List.{AllByRecursion, flat_map, list_all, list_any, range_with_len}
+use Rattle.std.proofs.Common.{◌≡◌, ℕ, ◌<◌, true, false}
+use Rattle.std.proofs.Common.{List, [], ◌∷◌, length, refl, sym, ◌∙◌, subst, inl, inr, ⊎_elim, leb, cond, map}
+use Rattle.std.proofs.lemmas.Bool.{cases_Bool, cases_lt, and_parts, and_from, or_left}
+use Rattle.std.proofs.lemmas.Bool.{or_right, le-leb, leb-true, both_ways, cond-true, cond-false}
+use Rattle.std.proofs.Math.Bool.{or-false}
+use Rattle.std.proofs.lemmas.List.FromFn.{length-map-range_with_len}
+use Rattle.std.specs.List.{list_all, range_with_len}
 use Rattle.query.specs.declared.pattern.TriplePattern.{TriplePattern}
 use Rattle.query.specs.Lawful.{mentions}
-use Rattle.query.specs.Limits.{variables}
 use Rattle.triples.specs.Meaning.{Meaning, Term, term}
-use Rattle.filter.specs.Rows.{Row, none, value, has_value}
-use Rattle.algebra.specs.Patterns.{with_value, triple_under, stored, numbers, open_variables, assignments}
+use Rattle.filter.specs.Rows.{Row, value}
+use Rattle.algebra.specs.Patterns.{with_value, triple_under, stored, completions}
 use Rattle.algebra.specs.Admissions.{Completes, possible}
 use Rattle.algebra.specs.Theorems.{PrunersLawful}
-use Rattle.algebra.proofs.Lists.{all-filter}
-use Rattle.algebra.proofs.Rows.{value-with_same, value-with_other, length-with_value, with_value-past}
-use Rattle.algebra.proofs.Rows.{value-past, has_value-no, has_value-yes, all-range}
-use Rattle.algebra.proofs.Assignments.{Among, among-open}
+use Rattle.algebra.proofs.Members.{any_from_member}
+use Rattle.algebra.proofs.Rows.{value-map, equal_past}
+use Rattle.algebra.proofs.Completions.{member-completions}
 use Rattle.algebra.proofs.Patterns.{stored-same}
 
--- has_value
+-- the row r with the values that s gives the variables of the pattern
+abbrev lent : Row → Row → TriplePattern → Row
+lent r s t = map (λ v. cond (mentions v (t ∷ [])) (value s v) (value r v)) (range_with_len 0 (length r))
 
-pub some-from_has_value : (r : Row) (v : ℕ) → has_value r v ≡ true → value r v ≢ none
-some-from_has_value r v h e = omega (arith, has_value-yes r v h, e)
+module _ (r s : Row) (t : TriplePattern) (long : length s ≡ length r) where
+  length-lent : length (lent r s t) ≡ length r
+  length-lent =
+      length-map-range_with_len (λ v. cond (mentions v (t ∷ [])) (value s v) (value r v)) 0 (length r)
 
--- list_any
+  value-lent : (v : ℕ) → v < length r
+      → value (lent r s t) v ≡ cond (mentions v (t ∷ [])) (value s v) (value r v)
+  value-lent v = value-map (λ w. cond (mentions w (t ∷ [])) (value s w) (value r w)) (length r) v
 
-any-range : {A : Type 0} (p : A → Bool) (f : ℕ → List A) (a n x : ℕ) → a ≤ x → x < a + n
-    → list_any p (f x) ≡ true → list_any p (flat_map f (range_with_len a n)) ≡ true
-any-range p f a zero x low high h = absurd (omega arith)
-any-range p f a (suc n) x low high h =
-    let rest = flat_map f (range_with_len (a + 1) n) in
-    ⊎_elim
-    (λ e. list_any-append p (f a) rest ∙ or_left _ _ (subst (λ y. list_any p (f y) ≡ true) e h))
-    (λ ne. list_any-append p (f a) rest
-    ∙ or_right (list_any p (f a)) (list_any p rest) (any-range p f (a + 1) n x (omega arith) (omega arith) h))
-    (cases_eq x a)
+  value-lent_own : (v : ℕ) → mentions v (t ∷ []) ≡ true → value (lent r s t) v ≡ value s v
+  value-lent_own v h =
+      ⊎_elim (λ low. value-lent v low ∙ cond-true (mentions v (t ∷ [])) (value s v) (value r v) h)
+      (equal_past (lent r s t) s (length r) length-lent long v) (cases_lt v (length r))
 
--- taken
-
--- the row with the values that s gives the variables
-abbrev taken : List ℕ → Row → Row → Row
-taken [] s r = r
-taken (v ∷ vs) s r = taken vs s (with_value r v (value s v))
-
-value-taken_one : (v : ℕ) (s r : Row) (w : ℕ) → value r w ≡ value s w
-    → value (with_value r v (value s v)) w ≡ value s w
-value-taken_one v s r w e =
-    ⊎_elim
-    (λ same. ⊎_elim
-    (λ inside. ap (value (with_value r v (value s v))) same ∙ value-with_same r v (value s v) inside
-    ∙ ap (value s) (sym same))
-    (λ past. ap (λ row. value row w) (with_value-past r v (value s v) past) ∙ e)
-    (cases_lt v (length r)))
-    (λ other. value-with_other r v (value s v) w other ∙ e)
-    (cases_eq w v)
-
-value-taken_kept : (vs : List ℕ) (s r : Row) (w : ℕ) → value r w ≡ value s w
-    → value (taken vs s r) w ≡ value s w
-value-taken_kept [] s r w e = e
-value-taken_kept (v ∷ vs) s r w e =
-    value-taken_kept vs s (with_value r v (value s v)) w (value-taken_one v s r w e)
-
-any-taken : (p : Row → Bool) (top : ℕ) (vs : List ℕ) (s r : Row)
-    → AllByRecursion (λ v. Term top (value s v)) vs → p (taken vs s r) ≡ true
-    → list_any p (assignments top vs r) ≡ true
-any-taken p top [] s r all h = or_left (p r) false h
-any-taken p top (v ∷ vs) s r all h =
-    any-range p (λ x. assignments top vs (with_value r v x)) 1 top (value s v)
-    all.0.positive (omega (arith, all.0.small))
-    (any-taken p top vs s (with_value r v (value s v)) all.1 h)
-
-value-taken : (vs : List ℕ) (s r : Row) (w : ℕ) → w < length r → Among w vs
-    → value (taken vs s r) w ≡ value s w
-value-taken [] s r w inside h = absurd h
-value-taken (v ∷ vs) s r w inside h =
-    ⊎_elim
-    (λ e. value-taken_kept vs s (with_value r v (value s v)) w
-    (subst (λ u. value (with_value r u (value s u)) w ≡ value s w) e
-    (value-with_same r w (value s w) inside)))
-    (value-taken vs s (with_value r v (value s v)) w
-    (subst (λ n. w < n) (sym (length-with_value r v (value s v))) inside))
-    h
+  value-lent_other : (v : ℕ) → mentions v (t ∷ []) ≡ false → value (lent r s t) v ≡ value r v
+  value-lent_other v f =
+      ⊎_elim (λ low. value-lent v low ∙ cond-false (mentions v (t ∷ [])) (value s v) (value r v) f)
+      (equal_past (lent r s t) r (length r) length-lent refl v) (cases_lt v (length r))
 
 -- the law
 
-or_more : (a b : Bool) → (a || false) ≡ true → (a || b) ≡ true
-or_more true b h = refl
-or_more false b h = absurd (both_ways false refl h)
-
 -- of what completes a row for a part, the values of one pattern's variables complete it for that pattern
 module _ (m : Meaning) (ts : List TriplePattern) (r s : Row) (done : Completes m.top ts r s) where
-  -- the variables of t without a value have terms
-  open_terms : (t : TriplePattern) → ((v : ℕ) → mentions v (t ∷ []) ≡ true → mentions v ts ≡ true)
-      → AllByRecursion (λ v. Term m.top (value s v)) (open_variables (t ∷ []) r)
-  open_terms t inside =
-      all-filter (λ v. (0 ≤ v) × (v < 0 + variables)) (λ v. Term m.top (value s v))
-      (λ v. mentions v (t ∷ []) && not (has_value r v))
-      (λ v bound test. let parts = and_parts (mentions v (t ∷ [])) (not (has_value r v)) test in
-      done.given v bound.1 (inside v parts.0)
-      (has_value-no r v (not-true (has_value r v) parts.1)))
-      numbers (all-range 0 variables)
-
-  -- the variables of t have in the row that takes them from s the values that s gives
-  taken_same : (t : TriplePattern) (v : ℕ) → mentions v (t ∷ []) ≡ true
-      → value (taken (open_variables (t ∷ []) r) s r) v ≡ value s v
-  taken_same t v h =
-      let vs = open_variables (t ∷ []) r in
-      ⊎_elim
-      (λ small. ⊎_elim
-      (λ has. value-taken_kept vs s r v (sym (done.kept v (inr (inr (some-from_has_value r v has))))))
-      (λ lacks. ⊎_elim
-      (λ inside. value-taken vs s r v inside
-      (among-open (t ∷ []) r v small h (has_value-no r v lacks)))
-      (λ past. value-taken_kept vs s r v
-      (value-past r v past ∙ sym (value-past s v (omega (arith, past, done.long)))))
-      (cases_lt v (length r)))
-      (cases_Bool (has_value r v)))
-      (λ large. value-taken_kept vs s r v (sym (done.kept v (inl large))))
-      (cases_lt v variables)
+  lent_completes : (t : TriplePattern) → ((v : ℕ) → mentions v (t ∷ []) ≡ true → mentions v ts ≡ true)
+      → Completes m.top (t ∷ []) r (lent r s t)
+  lent_completes t inside = record {
+    long = length-lent r s t done.long;
+    given = λ v small held free. subst (Term m.top) (sym (value-lent_own r s t done.long v held))
+        (done.given v small (inside v held) free);
+    kept = λ v h. ⊎_elim
+        (λ held. value-lent_own r s t done.long v held ∙ done.kept v
+        (⊎_elim inl
+        (⊎_elim (λ lacks. absurd (both_ways (mentions v (t ∷ [])) lacks held)) (λ some. inr (inr some))) h))
+        (value-lent_other r s t done.long v)
+        (cases_Bool (mentions v (t ∷ [])));
+  }
 
   pub pattern-possible : (t : TriplePattern) → ((v : ℕ) → mentions v (t ∷ []) ≡ true → mentions v ts ≡ true)
       → stored m (t ∷ []) s ≡ true → possible m r t ≡ true
   pattern-possible t inside has =
-      let vs = open_variables (t ∷ []) r in
-      any-taken (stored m (t ∷ [])) m.top vs s r (open_terms t inside)
-      (stored-same m (t ∷ []) (taken vs s r) s (taken_same t) ∙ has)
+      any_from_member (stored m (t ∷ [])) (lent r s t) (completions m.top (t ∷ []) r)
+      (member-completions m.top (t ∷ []) r (lent r s t) (lent_completes t inside))
+      (stored-same m (t ∷ []) (lent r s t) s (value-lent_own r s t done.long) ∙ has)
 
   patterns-possible : (us : List TriplePattern) → ((v : ℕ) → mentions v us ≡ true → mentions v ts ≡ true)
       → stored m us s ≡ true → list_all (possible m r) us ≡ true
   patterns-possible [] inside has = refl
   patterns-possible (t ∷ us) inside has =
-      let parts = and_parts (m.has (triple_under s t)) (stored m us s) has in
+      let (first, rest) = and_parts (m.has (triple_under s t)) (stored m us s) has in
       and_from (possible m r t) (list_all (possible m r) us)
-      (pattern-possible t (λ v h. inside v (or_more _ (mentions v us) h)) (and_from _ true parts.0 refl))
-      (patterns-possible us (λ v h. inside v (or_right _ (mentions v us) h)) parts.1)
+      (pattern-possible t (λ v h. inside v (or_left _ (mentions v us) (sym (or-false _) ∙ h)))
+      (and_from _ true first refl))
+      (patterns-possible us (λ v h. inside v (or_right _ (mentions v us) h)) rest)
 
 term-true : (top n : ℕ) → Term top n → term top n ≡ true
 term-true top n t = and_from (leb 1 n) (leb n top) (le-leb 1 n t.positive) (le-leb n top t.small)

@@ -16,7 +16,7 @@ use Rattle.algebra.proofs.Counts.{total-solutions}
 use Rattle.algebra.proofs.FromWords.{listed_from_words}
 use Rattle.algebra.proofs.Listing.{rows_of}
 use Rattle.algebra.proofs.Ordered.{rows_once}
-use Rattle.algebra.proofs.Rows.{times-total}
+use Rattle.algebra.proofs.Lists.{count_by-total}
 use Rattle.algebra.proofs.ToWords.{words_from_listed}
 
 -- no alternative of a lawful query has two blocks that share a variable which its required triples lack
@@ -31,8 +31,8 @@ lawful-apart q a h low =
 times-solutions : (m : Meaning) (e : ℕ → Entry) (g : Group) (r : Row)
     → times r (solutions m e g) ≡ times r (rows_of m e g)
 times-solutions m e g r =
-    times-total r (solutions m e g) ∙ total-solutions m e g (λ s. cond (same_row r s) 1 0)
-    ∙ sym (times-total r (rows_of m e g))
+    count_by-total (same_row r) (solutions m e g) ∙ total-solutions m e g (λ s. cond (same_row r s) 1 0)
+    ∙ sym (count_by-total (same_row r) (rows_of m e g))
 
 pub solutions_in_words : (m : Meaning) (e : ℕ → Entry) (q : List Group) → Sound m → lawful q ≡ true
     → SolutionsInWords m e q

@@ -18,16 +18,17 @@ use Rattle.algebra.specs.Answers.{times}
 use Rattle.algebra.specs.Order.{part_of}
 use Rattle.algebra.specs.Words.{reached, upto, Fits, Extended, Left, Answered, no_part}
 use Rattle.algebra.proofs.Listing.{or_itself, extended, rows_of}
-use Rattle.algebra.proofs.Assignments.{among-open_back}
-use Rattle.algebra.proofs.Rows.{length-blank, value-blank}
-use Rattle.algebra.proofs.Members.{Member, member_filter_back, member_flat_map_back, member_times}
-use Rattle.algebra.proofs.Members.{or_itself_member, drop_next}
+use Rattle.algebra.proofs.Rows.{length-blank, value-blank, member_from_times}
+use Rattle.algebra.proofs.Members.{Member, member_from_filter, member_from_flat_map}
 use Rattle.algebra.proofs.Owners.{block_at, block_holds, required_owns, required_holds}
 use Rattle.algebra.proofs.Patterns.{stored-same, stored-terms}
 use Rattle.algebra.proofs.Phrases.{reached_part, upto_part, upto_is}
-use Rattle.algebra.proofs.Fillings.{Filled, fitting_filled, filled_fitting, bgp_filled}
+use Rattle.algebra.specs.Admissions.{Completes}
+use Rattle.algebra.proofs.Completions.{kept_from_completes}
+use Rattle.algebra.proofs.Lists.{drop-next}
+use Rattle.algebra.proofs.Fitting.{completes_from_stored, fits_from_member, member-fitting, member_from_or_itself}
 use Rattle.algebra.proofs.Work.{Worked, Asked, made_by, term_some, own_free, worked_next, upto_before}
-use Rattle.algebra.proofs.Work.{filled_kept, filled_from}
+use Rattle.algebra.proofs.Work.{others_from_completes, completes_from_own}
 
 -- r has s as its values up to the first k blocks, and each later block asks of it what it has
 pub record Onward (m : Meaning) (e : ℕ → Entry) (g : Group) (k : ℕ) (s r : Row) : Type 0 where
@@ -57,10 +58,10 @@ onward_none m e g k s r all w same =
 module _ (m : Meaning) (e : ℕ → Entry) (g : Group) (sound : Sound m) (apart : shares g ≡ false) where
   -- the block fits t, and r comes from there
   onward_fit : (k : ℕ) (s t r : Row) → k < length g.blocks → Worked g k s
-      → Filled m.top (block_at g k).triples s t → Fits m e (block_at g k) t → Onward m e g (k + 1) t r
+      → Completes m.top (block_at g k).triples s t → Fits m e (block_at g k) t → Onward m e g (k + 1) t r
       → Onward m e g k s r
   onward_fit k s t r low w f fits on =
-      let kept = filled_kept g k s w apart low m.top t f in
+      let kept = others_from_completes g k s w apart low m.top t f in
       let extended : Extended m e g (k + 1) (block_at g k) r = record {
         values = λ v own. subst (Term m.top) (sym (ap (λ u. value u v) on.before)
             ∙ upto_part g (k + 1) r v (k + 1) on.long own (omega arith))
@@ -76,7 +77,7 @@ module _ (m : Meaning) (e : ℕ → Entry) (g : Group) (sound : Sound m) (apart 
 
   -- the block fits no row, and r comes from s as it is
   onward_left : (k : ℕ) (s r : Row) → k < length g.blocks → Worked g k s
-      → ((t : Row) → Filled m.top (block_at g k).triples s t → Fits m e (block_at g k) t → ⊥)
+      → ((t : Row) → Completes m.top (block_at g k).triples s t → Fits m e (block_at g k) t → ⊥)
       → Onward m e g (k + 1) s r → Onward m e g k s r
   onward_left k s r low w never on =
       let left : Left m e g (k + 1) (block_at g k) r = record {
@@ -84,7 +85,7 @@ module _ (m : Meaning) (e : ℕ → Entry) (g : Group) (sound : Sound m) (apart 
             sym (upto_part g (k + 1) r v (k + 1) on.long own (omega arith))
             ∙ ap (λ u. value u v) on.before ∙ own_free g k s w v own;
         nothing = λ t gives fits. never t
-            (filled_from g k s w apart low m.top t gives.long gives.own
+            (completes_from_own g k s w apart low m.top t gives.long gives.own
             (λ v other. gives.others v other ∙ ap (λ u. value u v) on.before)) fits;
       } in
       record {
@@ -106,26 +107,26 @@ module _ (m : Meaning) (e : ℕ → Entry) (g : Group) (sound : Sound m) (apart 
       let low : k < length g.blocks = omega arith in
       let all_next : (k + 1) + n ≡ length g.blocks = omega arith in
       let fits = made_by m e g k s in
-      let (t, from, on) = member_flat_map_back (extended m e (drop (k + 1) g.blocks)) r (or_itself s fits)
-      (subst (λ bs. Member r (extended m e bs s)) (drop_next g.blocks k no_part low) h) in
+      let (t, from, on) = member_from_flat_map (extended m e (drop (k + 1) g.blocks)) r (or_itself s fits)
+      (subst (λ bs. Member r (extended m e bs s)) (drop-next g.blocks k no_part low) h) in
       ⊎_elim
-      (λ fit. let (f, good) = fitting_filled m e (block_at g k) s t w.long fit in
+      (λ fit. let (f, good) = fits_from_member m e (block_at g k) s t w.long fit in
       onward_fit m e g sound apart k s t r low w f good
       (onward_listed n (k + 1) t r all_next
-      (worked_next g k s w t (f.long ∙ w.long) (filled_kept g k s w apart low m.top t f)) on))
+      (worked_next g k s w t (f.long ∙ w.long) (others_from_completes g k s w apart low m.top t f)) on))
       (λ left. onward_left m e g sound apart k s r low w
-      (λ u f good. subst (Member u) left.1 (filled_fitting m e (block_at g k) s u w.long f good))
+      (λ u f good. subst (Member u) left.1 (member-fitting m e (block_at g k) s u f good))
       (onward_listed n (k + 1) s r all_next (worked_next g k s w s w.long (λ v _. refl))
       (subst (λ u. Member r (extended m e (drop (k + 1) g.blocks) u)) left.0 on)))
-      (or_itself_member s t fits from)
+      (member_from_or_itself s t fits from)
 
   -- the rows of the required triples, as rows in work before the first block
-  worked_start : (s : Row) → Filled m.top g.required blank s → stored m g.required s ≡ true → Worked g 0 s
+  worked_start : (s : Row) → Completes m.top g.required blank s → stored m g.required s ≡ true → Worked g 0 s
   worked_start s f held =
       record {
         long = f.long ∙ length-blank;
-        later = λ v far. f.kept v (λ h. let o = among-open_back g.required blank v h in
-            both_ways (reached 0 (part_of g v)) far
+        later = λ v far. kept_from_completes m.top g.required blank s f v
+            (λ o. both_ways (reached 0 (part_of g v)) far
             (reached_part 0 0 (part_of g v) (required_owns g v o.held) (omega arith)))
             ∙ value-blank v;
         required = λ v first. term_some m.top (value s v)
@@ -149,9 +150,9 @@ module _ (m : Meaning) (e : ℕ → Entry) (g : Group) (sound : Sound m) (apart 
   -- a row that is listed is an answer in words
   pub words_from_listed : (r : Row) → 0 < times r (rows_of m e g) → Answered m e g r
   words_from_listed r h =
-      let (there, true_on) = member_filter_back (passes e g.filter) r
-      (flat_map (extended m e g.blocks) (bgp m g.required)) (member_times r (rows_of m e g) h) in
-      let (s, start, on) = member_flat_map_back (extended m e g.blocks) r (bgp m g.required) there in
-      let (f, held) = bgp_filled m g.required s start in
+      let (there, true_on) = member_from_filter (passes e g.filter) r
+      (flat_map (extended m e g.blocks) (bgp m g.required)) (member_from_times r (rows_of m e g) h) in
+      let (s, start, on) = member_from_flat_map (extended m e g.blocks) r (bgp m g.required) there in
+      let (f, held) = completes_from_stored m g.required blank s length-blank start in
       answered_onward s r held
       (onward_listed (length g.blocks) 0 s r (omega arith) (worked_start s f held) on) true_on

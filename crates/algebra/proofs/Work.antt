@@ -2,10 +2,9 @@
 -- the next one of it. Assumes nothing.
 --     Worked g k s          a row that may be in work when the first k blocks are done
 --     Asked m e g r i       what block number i asks of an answer
-use Rattle.std.proofs.Common.{◌≡◌, ℕ, ◌+◌, ◌<◌, ◌≤◌, true, false, ◌⊎◌, ◌≢◌, List, length, Some, None, Option}
-use Rattle.std.proofs.Common.{sym, ap, ◌∙◌, subst, inl, inr, ⊎_elim, arith}
-use Rattle.std.proofs.lemmas.Bool.{both_ways, cases_lt, cases_eq}
-use Rattle.std.proofs.lemmas.List.{get_or_past}
+use Rattle.std.proofs.Common.{◌≡◌, ℕ, ◌+◌, ◌<◌, false, ◌⊎◌, ◌≢◌, List, length, Some, None, Option}
+use Rattle.std.proofs.Common.{sym, ap, ◌∙◌, inl, inr, ⊎_elim, arith}
+use Rattle.std.proofs.lemmas.Bool.{both_ways, cases_eq}
 use Rattle.catalogue.specs.Entries.{Entry}
 use Rattle.query.specs.Lawful.{mentions, shares}
 use Rattle.query.specs.Limits.{variables}
@@ -16,11 +15,12 @@ use Rattle.filter.specs.Filters.{passes}
 use Rattle.algebra.specs.Order.{part_of}
 use Rattle.algebra.specs.Words.{reached, upto, Extended, Left}
 use Rattle.algebra.proofs.Listing.{fitting}
-use Rattle.algebra.proofs.Assignments.{among-open, among-open_back}
-use Rattle.algebra.proofs.Owners.{block_at, block_holds, block_owns}
+use Rattle.algebra.specs.Admissions.{Completes}
+use Rattle.algebra.proofs.Rows.{value-past}
+use Rattle.algebra.proofs.Completions.{Open, kept_from_completes}
+use Rattle.algebra.proofs.Owners.{block_at, block_holds, block_owns, same_part}
 use Rattle.algebra.proofs.Phrases.{reached_part, reached_more, reached_above, reached_less-no, upto_kept}
 use Rattle.algebra.proofs.Phrases.{upto_is}
-use Rattle.algebra.proofs.Fillings.{Filled}
 
 -- the variables of the required triples have values, those that belong to parts after k have none
 pub record Worked (g : Group) (k : ℕ) (s : Row) : Type 0 where
@@ -33,10 +33,6 @@ pub cases_part : (o : Option ℕ) (k : ℕ) → (o ≡ Some k) ⊎ (o ≡ Some k
 cases_part None k = inr (λ e. cc)
 cases_part (Some j) k =
     ⊎_elim (λ e. inl (ap Some e)) (λ n. inr (λ e. let same : j ≡ k = cc in n same)) (cases_eq j k)
-
--- two parts of one variable are the same
-one_part : (o : Option ℕ) (j k : ℕ) → o ≡ Some j → o ≡ Some k → j ≡ k
-one_part o j k e f = cc
 
 -- a term is not none
 pub term_some : (top x : ℕ) → Term top x → x ≡ none → ⊥
@@ -57,7 +53,7 @@ module _ (g : Group) (k : ℕ) (s : Row) (w : Worked g k s) where
             (reached_part (k + 1) (k + 1) (part_of g v) own (omega arith)))
             ∙ w.later v (reached_less-no k (part_of g v) far);
         required = λ v first e. w.required v first (sym (kept v (λ own.
-            let never = one_part (part_of g v) 0 (k + 1) first own in omega arith)) ∙ e);
+            let never = same_part (part_of g v) 0 (k + 1) first own in omega arith)) ∙ e);
       }
 
   -- and if it is what r is up to that block, then s is what r is up to the block before
@@ -74,34 +70,32 @@ module _ (g : Group) (k : ℕ) (s : Row) (w : Worked g k s) where
 
   module _ (apart : shares g ≡ false) (low : k < length g.blocks) where
     -- what the next block's triples leave open in s are its own variables
-    open_own : (v : ℕ) → v < variables → mentions v (block_at g k).triples ≡ true → value s v ≡ none
-        → part_of g v ≡ Some (k + 1)
-    open_own v small there free =
-        ⊎_elim (λ first. absurd (w.required v first free)) (λ own. own)
-        (block_owns g apart k v small low there)
+    open_own : (v : ℕ) → Open (block_at g k).triples s v → part_of g v ≡ Some (k + 1)
+    open_own v o =
+        ⊎_elim (λ first. absurd (w.required v first o.valueless)) (λ own. own)
+        (block_owns g apart k v o.inside low o.held)
 
-    pub filled_kept : (top : ℕ) (t : Row) → Filled top (block_at g k).triples s t → (v : ℕ)
+    pub others_from_completes : (top : ℕ) (t : Row) → Completes top (block_at g k).triples s t → (v : ℕ)
         → (part_of g v ≡ Some (k + 1) → ⊥) → value t v ≡ value s v
-    filled_kept top t f v other =
-        f.kept v (λ h. let o = among-open_back (block_at g k).triples s v h in
-        other (open_own v o.inside o.held o.valueless))
+    others_from_completes top t c v other =
+        kept_from_completes top (block_at g k).triples s t c v (λ o. other (open_own v o))
 
-    pub filled_from : (top : ℕ) (t : Row) → length t ≡ variables
+    pub completes_from_own : (top : ℕ) (t : Row) → length t ≡ variables
         → ((v : ℕ) → part_of g v ≡ Some (k + 1) → Term top (value t v))
         → ((v : ℕ) → (part_of g v ≡ Some (k + 1) → ⊥) → value t v ≡ value s v)
-        → Filled top (block_at g k).triples s t
-    filled_from top t long own others =
+        → Completes top (block_at g k).triples s t
+    completes_from_own top t long own others =
         record {
           long = long ∙ sym w.long;
-          given = λ v h. let o = among-open_back (block_at g k).triples s v h in
-              own v (open_own v o.inside o.held o.valueless);
-          kept = λ v shut. ⊎_elim
-              (λ mine. ⊎_elim
-              (λ small. absurd (shut (among-open (block_at g k).triples s v small ((block_holds g k v mine).1)
-              (own_free v mine))))
-              (λ high. absurd (term_some top (value t v) (own v mine)
-              (get_or_past t v none (subst (λ n. n ≤ v) (sym long) high))))
-              (cases_lt v variables))
+          given = λ v small held free.
+              own v (open_own v (record { inside = small; held = held; valueless = free }));
+          kept = λ v h. ⊎_elim
+              (λ mine. absurd (⊎_elim
+              (λ past. term_some top (value t v) (own v mine) (value-past t v (omega (arith, long, past))))
+              (⊎_elim
+              (λ lacks. both_ways (mentions v (block_at g k).triples) lacks ((block_holds g k v mine).1))
+              (λ some. some (own_free v mine)))
+              h))
               (others v) (cases_part (part_of g v) (k + 1));
         }
 
