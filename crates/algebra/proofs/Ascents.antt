@@ -8,6 +8,7 @@ use Rattle.std.specs.List.{filter, flat_map, range_with_len, AllByRecursion}
 use Rattle.algebra.specs.Order.{Ascending}
 use Rattle.algebra.proofs.Ranges.{all-range}
 use Rattle.algebra.proofs.Lists.{filter-yes, filter-no, all-append, all-weaker, all-filter, all-map, count_by-yes, count_by-no}
+use Rattle.algebra.proofs.Lists.{count_by-none}
 use Rattle.algebra.proofs.Lists.{filter-like, filter-filter, filter-all}
 
 module _ {A : Type 0} (R : A → A → Type 0) where
@@ -106,17 +107,13 @@ filter-rest p q xs v vs up e same off =
 
 module _ {A : Type 0} (R : A → A → Type 0) (same : A → A → Bool)
     (equal : (x y : A) → same x y ≡ true → x ≡ y) (never : (x : A) → R x x → ⊥) (a : A) where
-  count_by-later : (xs : List A) → AllByRecursion (R a) xs → count_by (same a) xs ≡ 0
-  count_by-later [] h = refl
-  count_by-later (x ∷ xs) h =
-      let other = false_from_ne_true (same a x) (λ t. never a (subst (R a) (sym (equal a x t)) h.0)) in
-      count_by-no (same a) x xs other ∙ count_by-later xs h.1
-
   pub count_by-ascending : (xs : List A) → Ascending R xs → count_by (same a) xs ≤ 1
   count_by-ascending [] h = omega arith
   count_by-ascending (x ∷ xs) h =
       ⊎_elim
-      (λ t. let later = count_by-later xs (subst (λ y. AllByRecursion (R y) xs) (sym (equal a x t)) h.0) in
+      (λ t. let later = count_by-none (same a) xs (all-weaker (R x) (λ y. same a y ≡ false)
+      (λ y l. false_from_ne_true (same a y) (λ w. never y (subst (λ z. R z y) (sym (equal a x t) ∙ equal a y w) l)))
+      xs h.0) in
       omega (arith, count_by-yes (same a) x xs t, later))
       (λ f. omega (arith, count_by-no (same a) x xs f, count_by-ascending xs h.1))
       (cases_Bool (same a x))

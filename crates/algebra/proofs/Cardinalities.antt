@@ -10,8 +10,7 @@ use Rattle.algebra.specs.Algebra.{compatible, merge, join, diff}
 use Rattle.algebra.specs.Answers.{same_row, times}
 use Rattle.algebra.specs.Theorems.{CountedAsDefined, AsOften, OnlyCountsMatter}
 use Rattle.algebra.proofs.Lists.{all-every, total-flat_map, total-map, total-filter, total-like}
-use Rattle.algebra.proofs.Lists.{total-zero, count_by-append, count_by-total}
-use Rattle.algebra.proofs.Merging.{cond-same}
+use Rattle.algebra.proofs.Lists.{total-cond, cond-same, count_by-append, count_by-total}
 use Rattle.algebra.proofs.Rows.{equal_from_same_row, same_row-refl}
 
 -- what the row s counts for r
@@ -19,11 +18,6 @@ abbrev one : Row → Row → ℕ
 one r s = cond (same_row r s) 1 0
 
 -- cond
-
-total-cond : (b : Bool) (w : Row → ℕ) (rows : List Row)
-    → total (λ s. cond b (w s) 0) rows ≡ cond b (total w rows) 0
-total-cond true w rows = refl
-total-cond false w rows = total-zero (λ _. 0) rows (all-every _ (λ _. refl) rows)
 
 cond-and : (a b : Bool) → ◌≡◌ {A = ℕ} (cond a (cond b 1 0) 0) (cond (a && b) 1 0)
 cond-and true b = refl

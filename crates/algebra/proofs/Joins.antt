@@ -14,12 +14,12 @@ use Rattle.filter.specs.Rows.{Row, none, value, has_value}
 use Rattle.algebra.specs.Patterns.{blank, with_value, stored, open_variables, terms, assignments, completions}
 use Rattle.algebra.specs.Algebra.{bgp, agree, compatible, merge}
 use Rattle.algebra.proofs.Lists.{filter-yes, filter-no, filter-flat_map, flat_map-same, map-flat_map}
-use Rattle.algebra.proofs.Lists.{all-weaker}
+use Rattle.algebra.proofs.Lists.{all-weaker, cond-same, map-cond, flat_map-cond}
 use Rattle.algebra.proofs.Rows.{value-with_same, value-with_other, length-with_value, equal_past, value-blank}
 use Rattle.algebra.proofs.Rows.{length-blank, some_from_has_value, none_from_has_value}
 use Rattle.algebra.proofs.Ranges.{all-range, flat_map-one}
 use Rattle.algebra.proofs.Patterns.{stored-same, open_variables-blank}
-use Rattle.algebra.proofs.Merging.{cond-same, agree-none, agree-values, compatible-with_value}
+use Rattle.algebra.proofs.Merging.{agree-none, agree-values, compatible-with_value}
 use Rattle.algebra.proofs.Merging.{compatible-none, merge-none, merge-free, merge-bound, length-merge}
 use Rattle.algebra.proofs.Merging.{value-merge}
 
@@ -27,15 +27,6 @@ use Rattle.algebra.proofs.Merging.{value-merge}
 pub record Valid (top : ℕ) (r : Row) : Type 0 where
   pub long : length r ≡ variables
   pub small : (v : ℕ) → value r v ≤ top
-
--- flat_map
-
-module _ {A : Type 0} where
-  flat_map-cond : (b : Bool) (f : ℕ → List A) (xs : List ℕ)
-      → flat_map (λ x. cond b (f x) []) xs ≡ cond b (flat_map f xs) []
-  flat_map-cond true f xs = refl
-  flat_map-cond false f [] = refl
-  flat_map-cond false f (x ∷ xs) = flat_map-cond false f xs
 
 -- the join of a row with a basic pattern
 
@@ -73,16 +64,12 @@ module _ (m : Meaning) (ts : List TriplePattern) (r : Row) where
       ∙ ap (map (merge r)) (filter-flat_map (compatible r) (λ x. filter (stored m ts) (each x)) (terms m.top))
       ∙ map-flat_map (merge r) (λ x. filter (compatible r) (filter (stored m ts) (each x))) (terms m.top)
 
-  map-cond : (b : Bool) (s : Row) → map (merge r) (cond b (s ∷ []) []) ≡ cond b (merge r s ∷ []) []
-  map-cond true s = refl
-  map-cond false s = refl
-
   merged-none : (s : Row)
       → merged [] s ≡ cond (compatible r s) (cond (stored m ts s) (merge r s ∷ []) []) []
   merged-none s =
       ⊎_elim
       (λ t. ap (λ l. map (merge r) (filter (compatible r) l)) (filter-yes (stored m ts) s [] t)
-      ∙ map-cond (compatible r s) s
+      ∙ map-cond (merge r) (compatible r s) s
       ∙ ap (λ b. cond (compatible r s) (cond b (merge r s ∷ []) []) []) (sym t))
       (λ f. ap (λ l. map (merge r) (filter (compatible r) l)) (filter-no (stored m ts) s [] f)
       ∙ sym (cond-same (compatible r s) [])

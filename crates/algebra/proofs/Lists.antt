@@ -1,14 +1,14 @@
 -- Laws of lists by the operation: All, flat_map, filter, the weight of a list, which is the total of a number
--- given to each of its elements, counts, and drop. Assumes nothing.
+-- given to each of its elements, counts, list_all, cond, and drop. Assumes nothing.
 use Rattle.std.proofs.Common.{◌≡◌, ℕ, ◌+◌, Bool, true, false, cond, ◌&&◌, List, [], ◌∷◌, ◌++◌, map}
 use Rattle.std.proofs.Common.{refl, sym, ap, ◌∙◌, subst, ⊎_elim, arith, count_by, ◌<◌, suc, length, get_or, drop}
 use Rattle.std.proofs.Math.Seq.{drop-cons}
-use Rattle.std.proofs.lemmas.Bool.{cases_Bool, cond-true, cond-false}
+use Rattle.std.proofs.lemmas.Bool.{cases_Bool, cond-true, cond-false, and_parts}
 use Rattle.std.proofs.lemmas.Grind.{flat_map-append}
 use Rattle.std.proofs.lemmas.List.Elements.{filter-append}
 use Rattle.std.proofs.lemmas.List.{map-append}
 use Rattle.std.proofs.lemmas.List.Sums.{sum_by-cons, sum_by-append}
-use Rattle.std.specs.List.{filter, flat_map, AllByRecursion}
+use Rattle.std.specs.List.{filter, flat_map, list_all, AllByRecursion}
 use Rattle.query.specs.Lawful.{total}
 
 -- filter, at a first element
@@ -200,6 +200,43 @@ module _ {A : Type 0} (p : A → Bool) where
   count_by-total [] = refl
   count_by-total (x ∷ xs) =
       sum_by-cons (λ y. cond (p y) 1 0) x xs ∙ ap (λ n. cond (p x) 1 0 + n) (count_by-total xs)
+
+  pub count_by-none : (xs : List A) → AllByRecursion (λ x. p x ≡ false) xs → count_by p xs ≡ 0
+  count_by-none [] h = refl
+  count_by-none (x ∷ xs) h = count_by-no x xs h.0 ∙ count_by-none xs h.1
+
+pub count_by-map : {A B : Type 0} (p : A → Bool) (f : B → A) (xs : List B)
+    → count_by p (map f xs) ≡ count_by (λ x. p (f x)) xs
+count_by-map p f xs =
+    count_by-total p (map f xs) ∙ total-map (λ x. cond (p x) 1 0) f xs ∙ sym (count_by-total (λ x. p (f x)) xs)
+
+-- list_all
+
+pub all_from_list_all : {A : Type 0} (P : A → Type 0) (p : A → Bool) → ((x : A) → p x ≡ true → P x)
+    → (xs : List A) → list_all p xs ≡ true → AllByRecursion P xs
+all_from_list_all P p to [] h = tt
+all_from_list_all P p to (x ∷ xs) h =
+    let (first, rest) = and_parts (p x) (list_all p xs) h in (to x first, all_from_list_all P p to xs rest)
+
+-- cond
+
+pub cond-same : {A : Type 0} (b : Bool) (x : A) → cond b x x ≡ x
+cond-same true x = refl
+cond-same false x = refl
+
+pub map-cond : {A B : Type 0} (f : A → B) (b : Bool) (x : A) → map f (cond b (x ∷ []) []) ≡ cond b (f x ∷ []) []
+map-cond f true x = refl
+map-cond f false x = refl
+
+pub flat_map-cond : {A B : Type 0} (b : Bool) (f : A → List B) (xs : List A)
+    → flat_map (λ x. cond b (f x) []) xs ≡ cond b (flat_map f xs) []
+flat_map-cond true f xs = refl
+flat_map-cond false f xs = flat_map-none (λ _. []) xs (all-every (λ _. [] ≡ []) (λ _. refl) xs)
+
+pub total-cond : {A : Type 0} (b : Bool) (w : A → ℕ) (xs : List A)
+    → total (λ x. cond b (w x) 0) xs ≡ cond b (total w xs) 0
+total-cond true w xs = refl
+total-cond false w xs = total-zero (λ _. 0) xs (all-every (λ _. ◌≡◌ {A = ℕ} 0 0) (λ _. refl) xs)
 
 -- drop
 

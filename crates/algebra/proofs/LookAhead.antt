@@ -21,7 +21,7 @@ use Rattle.algebra.specs.Patterns.{triple_under, stored, numbers, completions}
 use Rattle.algebra.specs.Admissions.{Completes, Allows, Matches}
 use Rattle.algebra.specs.Order.{parts_of}
 use Rattle.algebra.specs.Theorems.{PossibleInWords, LookAheadInWords, patterns_of}
-use Rattle.algebra.proofs.Lists.{all-append}
+use Rattle.algebra.proofs.Lists.{all-map, all-flat_map, all_from_list_all}
 use Rattle.algebra.proofs.Members.{member_has, member_from_any}
 use Rattle.algebra.proofs.Rows.{equal_past, value-map}
 use Rattle.algebra.proofs.Patterns.{in_triple, in_subject, in_property, in_object}
@@ -192,39 +192,27 @@ possible-matched m t sound lawful r long = (
 
 -- the patterns of a query
 
-module _ (P : TriplePattern → Type 0) (lawful-has : (t : TriplePattern) → lawful_triple t ≡ true → P t) where
-  all-lawful : (ts : List TriplePattern) → list_all lawful_triple ts ≡ true → AllByRecursion P ts
-  all-lawful [] h = tt
-  all-lawful (t ∷ ts) h =
-      let parts = and_parts (lawful_triple t) (list_all lawful_triple ts) h in
-      (lawful-has t parts.0, all-lawful ts parts.1)
+module _ (P : TriplePattern → Type 0) (has : (t : TriplePattern) → lawful_triple t ≡ true → P t) where
+  all-part : (least : ℕ) (ts : List TriplePattern) → lawful_triples least ts ≡ true → AllByRecursion P ts
+  all-part least ts h =
+      all_from_list_all P lawful_triple has ts
+      (and_parts (within least most_in_part (length ts)) (list_all lawful_triple ts) h).1
 
-  all-block_patterns : (bs : List Part) → list_all lawful_part bs ≡ true
-      → AllByRecursion P (flat_map (λ ts. ts) (map (λ b. b.triples) bs))
-  all-block_patterns [] h = tt
-  all-block_patterns (b ∷ bs) h =
-      let parts = and_parts (lawful_part b) (list_all lawful_part bs) h in
-      let triples = and_parts (lawful_triples 1 b.triples) (lawful_filter b.filter) parts.0 in
-      let each = and_parts (within 1 most_in_part (length b.triples)) (list_all lawful_triple b.triples)
-      triples.0 in
-      all-append P b.triples (flat_map (λ ts. ts) (map (λ b. b.triples) bs)) (all-lawful b.triples each.1)
-      (all-block_patterns bs parts.1)
-
-  all-group_patterns : (g : Group) → lawful_group g ≡ true
-      → AllByRecursion P (flat_map (λ ts. ts) (parts_of g))
-  all-group_patterns g h =
+  all-parts : (g : Group) → lawful_group g ≡ true → AllByRecursion P (flat_map (λ ts. ts) (parts_of g))
+  all-parts g h =
       let l = group_limits g h in
-      let each = and_parts (within 0 most_in_part (length g.required)) (list_all lawful_triple g.required)
-      l.required in
-      all-append P g.required (flat_map (λ ts. ts) (map (λ b. b.triples) g.blocks))
-      (all-lawful g.required each.1) (all-block_patterns g.blocks l.blocks)
+      all-flat_map P (λ ts. ts) (parts_of g) (
+        all-part 0 g.required l.required,
+        all-map (AllByRecursion P) (λ b. b.triples) g.blocks
+            (all_from_list_all (λ b. AllByRecursion P b.triples) lawful_part
+            (λ b k. all-part 1 b.triples (and_parts (lawful_triples 1 b.triples) (lawful_filter b.filter) k).0)
+            g.blocks l.blocks),
+      )
 
   all-patterns : (q : List Group) → list_all lawful_group q ≡ true → AllByRecursion P (patterns_of q)
-  all-patterns [] h = tt
-  all-patterns (g ∷ q) h =
-      let parts = and_parts (lawful_group g) (list_all lawful_group q) h in
-      all-append P (flat_map (λ ts. ts) (parts_of g)) (patterns_of q) (all-group_patterns g parts.0)
-      (all-patterns q parts.1)
+  all-patterns q h =
+      all-flat_map P (λ g. flat_map (λ ts. ts) (parts_of g)) q
+      (all_from_list_all (λ g. AllByRecursion P (flat_map (λ ts. ts) (parts_of g))) lawful_group all-parts q h)
 
 pub look_ahead_in_words : (m : Meaning) (q : List Group) → Sound m → lawful q ≡ true → LookAheadInWords m q
 look_ahead_in_words m q sound h =

@@ -7,11 +7,7 @@ use Rattle.filter.specs.Rows.{Row, none, value}
 use Rattle.algebra.specs.Patterns.{with_value}
 use Rattle.algebra.specs.Algebra.{agree, compatible, either, merge}
 
--- cond, &&
-
-pub cond-same : {A : Type 0} (b : Bool) (x : A) → cond b x x ≡ x
-cond-same true x = refl
-cond-same false x = refl
+-- &&
 
 and-swap : (a b c : Bool) → (a && (b && c)) ≡ (b && (a && c))
 and-swap true true c = refl

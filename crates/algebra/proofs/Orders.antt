@@ -112,42 +112,37 @@ module _ (g : Group) where
   before-same r s b w p own =
       ⊎_elim (b.earlier w p own) (λ h. b.lower w (own ∙ ap (λ k. Some k) h.0) h.1)
 
-  before-at : (r s : Row) (k v : ℕ) → part_of g v ≡ Some k → value r v < value s v
-      → ((w p : ℕ) → part_of g w ≡ Some p → Sooner p w k v → value r w ≡ value s w) → Before g r s
-  before-at r s k v own smaller same = record {
-    part = k;
-    variable = v;
-    own = own;
-    smaller = smaller;
-    earlier = λ w p o h. same w p o (inl h);
-    lower = λ w o h. same w k o (inr (refl, h));
-  }
-
   module _ (r s t : Row) (b : Before g r s) (c : Before g s t) where
-    onward-first : Sooner b.part b.variable c.part c.variable → Before g r t
-    onward-first h =
-        let same = before-same s t c b.variable b.part b.own h in
-        before-at r t b.part b.variable b.own (omega (arith, b.smaller, same))
-        (λ w p o l. before-same r s b w p o l
-        ∙ before-same s t c w p o (sooner-then p w b.part b.variable c.part c.variable l h))
-
-    onward-second : Sooner c.part c.variable b.part b.variable → Before g r t
-    onward-second h =
-        let same = before-same r s b c.variable c.part c.own h in
-        before-at r t c.part c.variable c.own (omega (arith, c.smaller, same))
-        (λ w p o l. before-same r s b w p o (sooner-then p w c.part c.variable b.part b.variable l h)
-        ∙ before-same s t c w p o l)
-
-    onward-both : b.part ≡ c.part → b.variable ≡ c.variable → Before g r t
-    onward-both e i =
-        before-at r t b.part b.variable b.own
-        (lt_trans b.smaller (subst (λ v. value s v < value t v) (sym i) c.smaller))
-        (λ w p o l. before-same r s b w p o l
-        ∙ before-same s t c w p o (subst₂ (λ k v. Sooner p w k v) e i l))
+    -- r is smaller than t at the variable v of part k, before which all three agree
+    before_from_both : (k v : ℕ) → part_of g v ≡ Some k → value r v < value t v
+        → ((w p : ℕ) → Sooner p w k v → Sooner p w b.part b.variable × Sooner p w c.part c.variable)
+        → Before g r t
+    before_from_both k v own smaller both = record {
+      part = k;
+      variable = v;
+      own = own;
+      smaller = smaller;
+      earlier = λ w p o h. agree w p o (both w p (inl h));
+      lower = λ w o h. agree w k o (both w k (inr (refl, h)));
+    }
+      where
+        agree : (w p : ℕ) → part_of g w ≡ Some p
+            → Sooner p w b.part b.variable × Sooner p w c.part c.variable → value r w ≡ value t w
+        agree w p o l = before-same r s b w p o l.0 ∙ before-same s t c w p o l.1
 
     before-then : Before g r t
     before-then =
-        ⊎_elim onward-first (⊎_elim onward-second (λ h. onward-both h.0 h.1))
+        ⊎_elim
+        (λ h. let same = before-same s t c b.variable b.part b.own h in
+        before_from_both b.part b.variable b.own (omega (arith, b.smaller, same))
+        (λ w p l. (l, sooner-then p w b.part b.variable c.part c.variable l h)))
+        (⊎_elim
+        (λ h. let same = before-same r s b c.variable c.part c.own h in
+        before_from_both c.part c.variable c.own (omega (arith, c.smaller, same))
+        (λ w p l. (sooner-then p w c.part c.variable b.part b.variable l h, l)))
+        (λ h. before_from_both b.part b.variable b.own
+        (lt_trans b.smaller (subst (λ v. value s v < value t v) (sym h.1) c.smaller))
+        (λ w p l. (l, subst₂ (λ k v. Sooner p w k v) h.0 h.1 l))))
         (sooner-cases b.part b.variable c.part c.variable)
 
 -- rows that agree at the variables of all parts, or one of them comes first

@@ -24,9 +24,6 @@ value-with_other r v x w h = get_or-set_other r v w x none h
 pub length-with_value : (r : Row) (v x : ℕ) → length (with_value r v x) ≡ length r
 length-with_value r v x = length-set r v x
 
-pub with_value-past : (r : Row) (v x : ℕ) → length r ≤ v → with_value r v x ≡ r
-with_value-past r v x h = set_past r v x h
-
 pub value-past : (r : Row) (v : ℕ) → length r ≤ v → value r v ≡ 0
 value-past r v h = get_or_past r v none h
 
