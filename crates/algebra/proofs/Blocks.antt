@@ -3,9 +3,9 @@
 --     in_blocks v bs      the triples of one of the blocks hold v
 --     Kept p r s          s is r but for variables with p that have no value in r
 --     Fitted ts r s       s gives the variables of the triples that have no value in r one each
-use Rattle.std.proofs.Common.{◌≡◌, ℕ, ◌<◌, Bool, true, false, not, ◌&&◌, ◌||◌, ◌⊎◌, List, [], ◌∷◌}
-use Rattle.std.proofs.Common.{length, refl, sym, ap, ◌∙◌, subst, ⊎_elim, inl, inr, arith}
-use Rattle.std.proofs.lemmas.Bool.{cases_eq, both_ways, and_parts, and_from, or_parts}
+use Rattle.std.proofs.Common.{◌≡◌, ℕ, ◌<◌, Bool, true, false, ◌||◌, ◌⊎◌, List, [], ◌∷◌}
+use Rattle.std.proofs.Common.{length, refl, sym, ◌∙◌, subst, ⊎_elim, inl, inr, arith}
+use Rattle.std.proofs.lemmas.Bool.{cases_eq, cases_lt, or_parts}
 use Rattle.std.specs.List.{list_any, AllByRecursion}
 use Rattle.catalogue.specs.Entries.{Entry}
 use Rattle.query.specs.declared.pattern.TriplePattern.{TriplePattern}
@@ -13,16 +13,16 @@ use Rattle.query.specs.Lawful.{mentions}
 use Rattle.query.specs.Limits.{variables}
 use Rattle.query.specs.Parts.{Part}
 use Rattle.triples.specs.Meaning.{Meaning}
-use Rattle.filter.specs.Rows.{Row, value, has_value}
+use Rattle.filter.specs.Rows.{Row, value}
 use Rattle.filter.specs.Filters.{passes}
 use Rattle.algebra.specs.Patterns.{completions, open_variables}
 use Rattle.algebra.proofs.Lists.{all-weaker, all-flat_map}
-use Rattle.algebra.proofs.Rows.{has_value-none}
 use Rattle.algebra.specs.Admissions.{Completes}
-use Rattle.algebra.proofs.Completions.{all-completions}
+use Rattle.algebra.proofs.Completions.{all-completions, rising-open, open_from_member, member-open}
+use Rattle.algebra.proofs.Rows.{equal_past}
 use Rattle.algebra.proofs.Fitting.{all-fitting, all-or_itself}
 use Rattle.algebra.proofs.Listing.{fitting, or_itself, extended}
-use Rattle.algebra.proofs.Flat.{Less, Lowest, lowest-less}
+use Rattle.algebra.proofs.Flat.{Less, Lowest, lowest_from_less}
 
 -- the triples of one of the blocks hold v
 abbrev pub in_blocks : ℕ → List Part → Bool
@@ -73,17 +73,18 @@ module _ (ts : List TriplePattern) (r : Row) where
       (all-completions top ts r long)
 
   -- fitted rows in the order over the variables that were open differ first at a variable of the triples
-  pub fitted-lowest : (s t : Row) → Fitted ts r s → Fitted ts r t → Less (open_variables ts r) s t
-      → Lowest 0 (λ v. mentions v ts) s t
-  fitted-lowest s t f g =
-      lowest-less (λ v. mentions v ts) (λ v. mentions v ts && not (has_value r v)) s t
-      (λ v o. (and_parts (mentions v ts) (not (has_value r v)) o).0)
-      (λ v y n. ⊎_elim
-      (λ e. absurd (both_ways (mentions v ts && not (has_value r v)) n
-      (and_from (mentions v ts) (not (has_value r v)) y (ap not (has_value-none r v e)))))
-      (λ k. let l : 0 < value r v = omega (arith, k) in f.kept.same v (inl l) ∙ sym (g.kept.same v (inl l)))
+  pub fitted-lowest : length r ≡ variables → (s t : Row) → Fitted ts r s → Fitted ts r t
+      → Less (open_variables ts r) s t → Lowest (λ v. mentions v ts) s t
+  fitted-lowest long s t f g =
+      lowest_from_less (λ v. mentions v ts) s t (open_variables ts r) ((rising-open ts r long).1)
+      (λ v i. (open_from_member ts r v i).held)
+      (λ v held out. ⊎_elim
+      (λ small. ⊎_elim
+      (λ free. absurd (out (member-open ts r v (record { inside = small; held = held; valueless = free }))))
+      (λ some. f.kept.same v (inl (omega (arith, some))) ∙ sym (g.kept.same v (inl (omega (arith, some)))))
       (cases_eq (value r v) 0))
-      0 variables
+      (equal_past s t variables (f.kept.long ∙ long) (g.kept.long ∙ long) v)
+      (cases_lt v variables))
 
 -- extended
 

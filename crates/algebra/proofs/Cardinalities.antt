@@ -9,7 +9,7 @@ use Rattle.filter.specs.Rows.{Row}
 use Rattle.algebra.specs.Algebra.{compatible, merge, join, diff}
 use Rattle.algebra.specs.Answers.{same_row, times}
 use Rattle.algebra.specs.Theorems.{CountedAsDefined, AsOften, OnlyCountsMatter}
-use Rattle.algebra.proofs.Lists.{all-every, total-flat_map, total-map, total-filter, total-like}
+use Rattle.algebra.proofs.Lists.{total-flat_map, total-map, total-filter, total-like}
 use Rattle.algebra.proofs.Lists.{total-cond, cond-same, count_by-append, count_by-total}
 use Rattle.algebra.proofs.Rows.{equal_from_same_row, same_row-refl}
 

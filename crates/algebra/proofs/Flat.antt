@@ -1,121 +1,101 @@
 -- The lexicographic order of rows over a list of variables, and the lowest variable at which two rows differ.
 -- Assumes nothing.
 --     Less vs r s        at the first variable of vs at which they differ, r has the smaller value
---     Lowest a p r s     at the lowest variable from a on with p where they differ, r has the smaller value
-use Rattle.std.proofs.Common.{◌≡◌, ℕ, zero, suc, ◌+◌, ◌<◌, ◌≤◌, Bool, true, false, ◌⊎◌, List, [], ◌∷◌}
-use Rattle.std.proofs.Common.{length, sym, ◌∙◌, subst, subst₂, ⊎_elim, inl, inr, arith}
-use Rattle.std.proofs.lemmas.Bool.{cases_Bool, cases_eq, cases_lt, both_ways}
-use Rattle.std.specs.List.{filter, range_with_len, AllByRecursion}
+--     Lowest p r s       at the lowest variable with p at which they differ, r has the smaller value
+use Rattle.std.proofs.Common.{◌≡◌, ℕ, ◌<◌, Bool, true, ◌⊎◌, List, [], ◌∷◌, length, refl, sym, ◌∙◌, subst}
+use Rattle.std.proofs.Common.{subst₂, ⊎_elim, inl, inr, arith}
+use Rattle.std.proofs.lemmas.Bool.{cases_eq, cases_lt}
+use Rattle.std.specs.List.{filter, AllByRecursion}
+use Rattle.query.specs.Limits.{variables}
 use Rattle.triples.specs.Meaning.{first_term}
 use Rattle.filter.specs.Rows.{Row, value}
-use Rattle.algebra.specs.Patterns.{with_value, terms, assignments}
+use Rattle.algebra.specs.Patterns.{with_value, numbers, terms, assignments}
 use Rattle.algebra.specs.Order.{Ascending}
-use Rattle.algebra.proofs.Lists.{filter-yes, filter-no, all-weaker, all-every}
-use Rattle.algebra.proofs.Rows.{value-with_same}
+use Rattle.algebra.proofs.Lists.{all-weaker, all-every}
+use Rattle.algebra.proofs.Members.{Member, member_has, member-filter, member_from_filter}
+use Rattle.algebra.proofs.Ranges.{member-range}
+use Rattle.algebra.proofs.Ascents.{ascending-filter, ascending-weaker, ascending-flat_map, ascending-range}
+use Rattle.algebra.proofs.Rows.{value-with_same, equal_past}
 use Rattle.algebra.proofs.Assignments.{Rising, Fills, other_from_below, rising-rest, all-assignments}
-use Rattle.algebra.proofs.Ascents.{ascending-weaker, ascending-flat_map, ascending-range}
 
 -- at the first variable of the list at which the rows differ, r has the smaller value; there is such a one
 abbrev pub Less : List ℕ → Row → Row → Type 0
 Less [] r s = ⊥
 Less (v ∷ vs) r s = (value r v < value s v) ⊎ ((value r v ≡ value s v) × Less vs r s)
 
--- the lowest variable from a on that passes the test and at which the rows differ; r has the smaller value
--- there
-pub record Lowest (a : ℕ) (p : ℕ → Bool) (r s : Row) : Type 0 where
+-- either each variable of the list has the same value in both, or they differ first at one of them
+less-cases : (vs : List ℕ) (r s : Row)
+    → ((v : ℕ) → Member v vs → value r v ≡ value s v) ⊎ (Less vs r s ⊎ Less vs s r)
+less-cases [] r s = inl (λ v h. absurd h)
+less-cases (v ∷ vs) r s =
+    ⊎_elim
+    (λ l. inr (inl (inl l)))
+    (λ m. ⊎_elim
+    (λ l. inr (inr (inl l)))
+    (λ k. let e : value r v ≡ value s v = omega (arith, m, k) in
+    ⊎_elim
+    (λ same. inl (λ w. ⊎_elim (λ is. subst (λ x. value r x ≡ value s x) (sym is) e) (same w)))
+    (⊎_elim (λ l. inr (inl (inr (e, l)))) (λ l. inr (inr (inr (sym e, l)))))
+    (less-cases vs r s))
+    (cases_lt (value s v) (value r v)))
+    (cases_lt (value r v) (value s v))
+
+-- the lowest variable that passes the test and at which the rows differ; r has the smaller value there
+pub record Lowest (p : ℕ → Bool) (r s : Row) : Type 0 where
   pub variable : ℕ
   pub own : p variable ≡ true
-  pub from : a ≤ variable
   pub smaller : value r variable < value s variable
-  pub lower : (w : ℕ) → p w ≡ true → a ≤ w → w < variable → value r w ≡ value s w
-
-lowest-here : (a : ℕ) (p : ℕ → Bool) (r s : Row) → p a ≡ true → value r a < value s a → Lowest a p r s
-lowest-here a p r s t l = record {
-  variable = a;
-  own = t;
-  from = omega arith;
-  smaller = l;
-  lower = λ w _ h k. absurd (omega arith);
-}
-
--- with one variable more below, at which the rows do not differ
-lowest-down : (a : ℕ) (p : ℕ → Bool) (r s : Row) → (p a ≡ true → value r a ≡ value s a)
-    → Lowest (a + 1) p r s → Lowest a p r s
-lowest-down a p r s same l = record {
-  variable = l.variable;
-  own = l.own;
-  from = let h = l.from in omega arith;
-  smaller = l.smaller;
-  lower = λ w t h k. ⊎_elim
-      (λ e. subst (λ v. value r v ≡ value s v) (sym e) (same (subst (λ v. p v ≡ true) e t)))
-      (λ n. l.lower w t (omega arith) k)
-      (cases_eq w a);
-}
+  pub lower : (w : ℕ) → p w ≡ true → w < variable → value r w ≡ value s w
 
 -- the lowest variable at which two rows differ stays, where the values at such variables stay
-pub lowest-kept : (a : ℕ) (p : ℕ → Bool) (r s t u : Row) → ((v : ℕ) → p v ≡ true → value t v ≡ value r v)
-    → ((v : ℕ) → p v ≡ true → value u v ≡ value s v) → Lowest a p r s → Lowest a p t u
-lowest-kept a p r s t u one other l = record {
+pub lowest-kept : (p : ℕ → Bool) (r s t u : Row) → ((v : ℕ) → p v ≡ true → value t v ≡ value r v)
+    → ((v : ℕ) → p v ≡ true → value u v ≡ value s v) → Lowest p r s → Lowest p t u
+lowest-kept p r s t u one other l = record {
   variable = l.variable;
   own = l.own;
-  from = l.from;
   smaller = subst₂ (λ x y. x < y) (sym (one l.variable l.own)) (sym (other l.variable l.own)) l.smaller;
-  lower = λ w e h k. one w e ∙ l.lower w e h k ∙ sym (other w e);
+  lower = λ w e k. one w e ∙ l.lower w e k ∙ sym (other w e);
 }
 
--- the order over the variables of a range that pass a test q, told of those that pass p, where rows agree at
--- those that pass p and not q
-module _ (p q : ℕ → Bool) (r s : Row) (with : (v : ℕ) → q v ≡ true → p v ≡ true)
-    (same : (v : ℕ) → p v ≡ true → q v ≡ false → value r v ≡ value s v) where
-  pub lowest-less : (a n : ℕ) → Less (filter q (range_with_len a n)) r s → Lowest a p r s
-  lowest-less a zero h = absurd h
-  lowest-less a (suc n) h =
-      ⊎_elim
-      (λ t. ⊎_elim
-      (λ l. lowest-here a p r s (with a t) l)
-      (λ l. lowest-down a p r s (λ _. l.0) (lowest-less (a + 1) n l.1))
-      (subst (λ vs. Less vs r s) (filter-yes q a (range_with_len (a + 1) n) t) h))
-      (λ f. lowest-down a p r s (λ k. same a k f)
-      (lowest-less (a + 1) n (subst (λ vs. Less vs r s) (filter-no q a (range_with_len (a + 1) n) f) h)))
-      (cases_Bool (q a))
+-- rows that differ first at a variable of a list that ascends, and agree at those with p that are not in it,
+-- differ at that one as the lowest with p
+pub lowest_from_less : (p : ℕ → Bool) (r s : Row) (vs : List ℕ) → Ascending (λ x y. x < y) vs
+    → ((v : ℕ) → Member v vs → p v ≡ true)
+    → ((v : ℕ) → p v ≡ true → (Member v vs → ⊥) → value r v ≡ value s v) → Less vs r s → Lowest p r s
+lowest_from_less p r s [] up own same h = absurd h
+lowest_from_less p r s (v ∷ vs) up own same h =
+    ⊎_elim
+    (λ l. record {
+      variable = v;
+      own = own v (inl refl);
+      smaller = l;
+      lower = λ w t k. same w t (⊎_elim (λ e. omega (arith, e, k))
+          (λ i. let later = member_has (λ x. v < x) w vs up.0 i in omega (arith, later, k)));
+    })
+    (λ k. lowest_from_less p r s vs up.1 (λ w i. own w (inr i))
+    (λ w t out. ⊎_elim (λ e. subst (λ x. value r x ≡ value s x) (sym e) k.0) (λ ne. same w t (⊎_elim ne out))
+    (cases_eq w v))
+    k.1)
+    h
 
--- rows agree at the variables of a range that pass a test, or at the lowest at which they differ one of them
--- has the smaller value
-
-module _ (p : ℕ → Bool) (r s : Row) where
-  -- the rows agree at the variables from a on and below a + n that pass the test
-  abbrev Agree : ℕ → ℕ → Type 0
-  Agree a n = (v : ℕ) → p v ≡ true → a ≤ v → v < a + n → value r v ≡ value s v
-
-  agree-down : (a n : ℕ) → (p a ≡ true → value r a ≡ value s a) → Agree (a + 1) n → Agree a (suc n)
-  agree-down a n here same v t h k =
-      ⊎_elim
-      (λ e. subst (λ w. value r w ≡ value s w) (sym e) (here (subst (λ w. p w ≡ true) e t)))
-      (λ ne. same v t (omega (arith, h, ne)) (omega (arith, k)))
-      (cases_eq v a)
-
-  cases-down : (a n : ℕ) → (p a ≡ true → value r a ≡ value s a)
-      → Agree (a + 1) n ⊎ (Lowest (a + 1) p r s ⊎ Lowest (a + 1) p s r)
-      → Agree a (suc n) ⊎ (Lowest a p r s ⊎ Lowest a p s r)
-  cases-down a n here =
-      ⊎_elim (λ same. inl (agree-down a n here same))
-      (⊎_elim (λ l. inr (inl (lowest-down a p r s here l)))
-      (λ l. inr (inr (lowest-down a p s r (λ t. sym (here t)) l))))
-
-  pub lowest-cases : (a n : ℕ) → Agree a n ⊎ (Lowest a p r s ⊎ Lowest a p s r)
-  lowest-cases a zero = inl (λ v _ h k. absurd (omega (arith, h, k)))
-  lowest-cases a (suc n) =
-      let later = lowest-cases (a + 1) n in
-      ⊎_elim
-      (λ t. ⊎_elim
-      (λ l. inr (inl (lowest-here a p r s t l)))
-      (λ m. ⊎_elim
-      (λ l. inr (inr (lowest-here a p s r t l)))
-      (λ k. cases-down a n (λ _. omega (arith, m, k)) later)
-      (cases_lt (value s a) (value r a)))
-      (cases_lt (value r a) (value s a)))
-      (λ f. cases-down a n (λ t. absurd (both_ways (p a) f t)) later)
-      (cases_Bool (p a))
+-- rows agree at the variables with p, or one of them has the smaller value at the lowest at which they differ
+pub lowest-cases : (p : ℕ → Bool) (r s : Row) → length r ≡ variables → length s ≡ variables
+    → ((v : ℕ) → p v ≡ true → value r v ≡ value s v) ⊎ (Lowest p r s ⊎ Lowest p s r)
+lowest-cases p r s one two =
+    let vs = filter p numbers in
+    let up = ascending-filter (λ x y. x < y) p numbers (ascending-range 0 variables) in
+    let own : (v : ℕ) → Member v vs → p v ≡ true = (λ v i. (member_from_filter p v numbers i).1) in
+    let past = equal_past r s variables one two in
+    let there : (v : ℕ) → p v ≡ true → v < variables → Member v vs =
+    (λ v t l. member-filter p v numbers t (member-range 0 variables v (omega arith) (omega (arith, l)))) in
+    let outside : (v : ℕ) → p v ≡ true → (Member v vs → ⊥) → value r v ≡ value s v =
+    (λ v t out. ⊎_elim (λ l. absurd (out (there v t l))) (past v) (cases_lt v variables)) in
+    ⊎_elim
+    (λ same. inl (λ v t. ⊎_elim (λ l. same v (there v t l)) (past v) (cases_lt v variables)))
+    (⊎_elim
+    (λ l. inr (inl (lowest_from_less p r s vs up own outside l)))
+    (λ l. inr (inr (lowest_from_less p s r vs up own (λ v t out. sym (outside v t out)) l))))
+    (less-cases vs r s)
 
 -- the assignments of a list of variables ascend in the order over it
 

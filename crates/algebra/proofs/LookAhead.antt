@@ -11,7 +11,7 @@ use Rattle.query.specs.declared.place.Place.TheVariants as place
 use Rattle.query.specs.declared.pattern.TriplePattern.{TriplePattern}
 use Rattle.query.specs.Lawful.{mentions, is_variable, lawful_triple, lawful_triples, lawful_filter, lawful_part}
 use Rattle.query.specs.Lawful.{lawful_group, limited, shares, lawful}
-use Rattle.query.specs.Parts.{Part, Group}
+use Rattle.query.specs.Parts.{Group}
 use Rattle.query.proofs.Limits.{group_limits, query_limits}
 use Rattle.query.specs.Limits.{variables, most_variable, most_term, most_in_part, within, lawful_place}
 use Rattle.triples.specs.declared.triple.Triple.{Triple}

@@ -1,5 +1,5 @@
 -- Laws of the comparing and the merging of rows. Assumes nothing.
-use Rattle.std.proofs.Common.{◌≡◌, ℕ, zero, suc, Bool, true, false, cond, ◌&&◌, ◌||◌, [], ◌∷◌, length}
+use Rattle.std.proofs.Common.{◌≡◌, ℕ, zero, suc, Bool, true, false, ◌&&◌, ◌||◌, [], ◌∷◌, length}
 use Rattle.std.proofs.Common.{eqb, ◌≢◌, refl, sym, ap, ap₂, ◌∙◌, ⊎_elim, eq-eqb, ne_eqb, eqb-true, replicate}
 use Rattle.std.proofs.Common.{arith}
 use Rattle.std.proofs.lemmas.Bool.{and_parts, and_right, or_right, cond-true, cond-false, cases_eq}

@@ -106,9 +106,9 @@ module _ (m : Meaning) (e : ℕ → Entry) (k : ℕ) (ts : List TriplePattern) (
       (Kept (λ v. in_blocks v bs)) (extended m e bs)
       (λ s f. extended-kept m e bs s (f.kept.long ∙ h))
       (λ s t f g l u w p q. ahead-first k ts (block_parts bs) u w
-      (lowest-kept 0 (λ v. mentions v ts) s t u w
+      (lowest-kept (λ v. mentions v ts) s t u w
       (settled-kept ts bs s (f.kept.long ∙ h) (settled s f) u p)
-      (settled-kept ts bs t (g.kept.long ∙ h) (settled t g) w q) (fitted-lowest ts r s t f g l)))
+      (settled-kept ts bs t (g.kept.long ∙ h) (settled t g) w q) (fitted-lowest ts r h s t f g l)))
       (λ s f. ascending-settled s (f.kept.long ∙ h) (settled s f) (each s f))
 
   -- what they make of a row, or of the rows that fitted where there are some

@@ -15,7 +15,7 @@ use Rattle.algebra.specs.Answers.{Answer}
 use Rattle.algebra.specs.Order.{parts_of, part_from, part_of, no_group, Before, Precedes}
 use Rattle.algebra.specs.Words.{Answered}
 use Rattle.algebra.specs.Theorems.{OrderIsTotal}
-use Rattle.algebra.proofs.Rows.{row_from_values, equal_past, answer_from_parts}
+use Rattle.algebra.proofs.Rows.{row_from_values, answer_from_parts}
 use Rattle.algebra.proofs.Owners.{part_from-yes, part_from-no, part_from_holds, first_holds}
 use Rattle.algebra.proofs.Flat.{Lowest, lowest-cases}
 
@@ -40,14 +40,14 @@ before-ahead g r s a = record {
 
 module _ (k : ℕ) (ts : List TriplePattern) (parts : List (List TriplePattern)) (r s : Row) where
   -- the rows differ first within the first part
-  pub ahead-first : Lowest 0 (λ v. mentions v ts) r s → Ahead k (ts ∷ parts) r s
+  pub ahead-first : Lowest (λ v. mentions v ts) r s → Ahead k (ts ∷ parts) r s
   ahead-first l = record {
     part = k;
     variable = l.variable;
     own = part_from-yes l.variable k ts parts l.own;
     smaller = l.smaller;
     earlier = λ w p e h. let (i, at, _, _) = part_from_holds w k (ts ∷ parts) p e in absurd (omega (arith, h, at));
-    lower = λ w e h. l.lower w (first_holds w k ts parts e) (omega arith) h;
+    lower = λ w e h. l.lower w (first_holds w k ts parts e) h;
   }
 
   -- the rows do not differ within the first part
@@ -154,9 +154,7 @@ module _ (r s : Row) (one : length r ≡ variables) (two : length s ≡ variable
   ahead-cases k [] = inl (λ v p e. absurd cc)
   ahead-cases k (ts ∷ parts) =
       ⊎_elim
-      (λ agree. let same : (v : ℕ) → mentions v ts ≡ true → value r v ≡ value s v =
-      (λ v t. ⊎_elim (agree v t (omega arith)) (equal_past r s variables one two v) (cases_lt v variables)) in
-      ⊎_elim
+      (λ same. ⊎_elim
       (λ rest. inl (λ v p e. same-unless k ts parts r s same v (Some p) e (rest v p)))
       (⊎_elim
       (λ a. inr (inl (ahead-later k ts parts r s same a)))
@@ -165,7 +163,7 @@ module _ (r s : Row) (one : length r ≡ variables) (two : length s ≡ variable
       (⊎_elim
       (λ l. inr (inl (ahead-first k ts parts r s l)))
       (λ l. inr (inr (ahead-first k ts parts s r l))))
-      (lowest-cases (λ v. mentions v ts) r s 0 variables)
+      (lowest-cases (λ v. mentions v ts) r s one two)
 
   -- rows that have no values elsewhere
   before-cases : (g : Group) → ((v : ℕ) → part_of g v ≡ None → value r v ≡ none)

@@ -5,14 +5,9 @@ use Rattle.std.proofs.Common.{None, Option, sym, ap, ◌∙◌, inl, inr, ⊎_el
 use Rattle.std.proofs.lemmas.Bool.{both_ways, cases_Bool, cases_lt, cond-true, cond-false, leb-true, le-leb}
 use Rattle.std.proofs.lemmas.Bool.{lt-leb}
 use Rattle.std.proofs.lemmas.List.FromFn.{length-map-range_with_len}
-use Rattle.query.specs.declared.pattern.TriplePattern.{}
-use Rattle.query.specs.declared.place.Place.{}
-use Rattle.query.specs.Lawful.{}
 use Rattle.query.specs.Limits.{variables}
 use Rattle.query.specs.Parts.{Group}
-use Rattle.triples.specs.Meaning.{}
 use Rattle.filter.specs.Rows.{Row, none, value}
-use Rattle.algebra.specs.Patterns.{}
 use Rattle.algebra.specs.Order.{part_of}
 use Rattle.algebra.specs.Words.{reached, upto}
 use Rattle.algebra.proofs.Rows.{value-map, value-past, equal_past, row_from_values}

@@ -1,6 +1,6 @@
 -- A row that is listed is an answer in words. Assumes nothing.
 --     Onward m e g k s r    r is what the words say of it from block k on, and s is what it was before that
-use Rattle.std.proofs.Common.{◌≡◌, ℕ, zero, suc, ◌+◌, ◌<◌, ◌≤◌, true, false, length, drop, None, refl, sym}
+use Rattle.std.proofs.Common.{Some, ◌≡◌, ℕ, zero, suc, ◌+◌, ◌<◌, ◌≤◌, true, false, length, drop, None, refl, sym}
 use Rattle.std.proofs.Common.{ap, ◌∙◌, subst, inl, inr, ⊎_elim, arith}
 use Rattle.std.proofs.Math.ListN.{drop_of_length-le}
 use Rattle.std.proofs.lemmas.Bool.{both_ways, cases_eq}
@@ -37,13 +37,6 @@ pub record Onward (m : Meaning) (e : ℕ → Entry) (g : Group) (k : ℕ) (s r :
   pub blocks : (i : ℕ) → k ≤ i → i < length g.blocks → Asked m e g r i
   pub others : (v : ℕ) → part_of g v ≡ None → value r v ≡ none
 
--- what block k asks, and what those after it ask
-asked_from : (m : Meaning) (e : ℕ → Entry) (g : Group) (r : Row) (k i : ℕ) → Asked m e g r k
-    → ((i : ℕ) → k + 1 ≤ i → i < length g.blocks → Asked m e g r i) → k ≤ i → i < length g.blocks
-    → Asked m e g r i
-asked_from m e g r k i here after low high =
-    ⊎_elim (λ same. subst (Asked m e g r) same here) (λ other. after i (omega arith) high) (cases_eq k i)
-
 onward_none : (m : Meaning) (e : ℕ → Entry) (g : Group) (k : ℕ) (s r : Row) → k ≡ length g.blocks
     → Worked g k s → r ≡ s → Onward m e g k s r
 onward_none m e g k s r all w same =
@@ -55,25 +48,34 @@ onward_none m e g k s r all w same =
       others = λ v nowhere. ap (λ u. value u v) same ∙ w.later v (ap (reached k) nowhere);
     }
 
+-- r comes from t behind block k, which differs from s at most at that block's own variables
+onward_more : (m : Meaning) (e : ℕ → Entry) (g : Group) (k : ℕ) (s t r : Row) → Worked g k s
+    → ((v : ℕ) → (part_of g v ≡ Some (k + 1) → ⊥) → value t v ≡ value s v) → Asked m e g r k
+    → Onward m e g (k + 1) t r → Onward m e g k s r
+onward_more m e g k s t r w kept here on =
+    record {
+      long = on.long;
+      before = upto_before g k s w r t on.long kept on.before;
+      blocks = λ i above high. ⊎_elim
+          (λ same. subst (Asked m e g r) same here)
+          (λ other. on.blocks i (omega arith) high)
+          (cases_eq k i);
+      others = on.others;
+    }
+
 module _ (m : Meaning) (e : ℕ → Entry) (g : Group) (sound : Sound m) (apart : shares g ≡ false) where
   -- the block fits t, and r comes from there
   onward_fit : (k : ℕ) (s t r : Row) → k < length g.blocks → Worked g k s
       → Completes m.top (block_at g k).triples s t → Fits m e (block_at g k) t → Onward m e g (k + 1) t r
       → Onward m e g k s r
   onward_fit k s t r low w f fits on =
-      let kept = others_from_completes g k s w apart low m.top t f in
       let extended : Extended m e g (k + 1) (block_at g k) r = record {
         values = λ v own. subst (Term m.top) (sym (ap (λ u. value u v) on.before)
             ∙ upto_part g (k + 1) r v (k + 1) on.long own (omega arith))
             (stored-terms m sound (block_at g k).triples t v fits.triples ((block_holds g k v own).1));
         fits = subst (Fits m e (block_at g k)) (sym on.before) fits;
       } in
-      record {
-        long = on.long;
-        before = upto_before g k s w r t on.long kept on.before;
-        blocks = λ i above high. asked_from m e g r k i (inl extended) on.blocks above high;
-        others = on.others;
-      }
+      onward_more m e g k s t r w (others_from_completes g k s w apart low m.top t f) (inl extended) on
 
   -- the block fits no row, and r comes from s as it is
   onward_left : (k : ℕ) (s r : Row) → k < length g.blocks → Worked g k s
@@ -88,14 +90,8 @@ module _ (m : Meaning) (e : ℕ → Entry) (g : Group) (sound : Sound m) (apart 
             (completes_from_own g k s w apart low m.top t gives.long gives.own
             (λ v other. gives.others v other ∙ ap (λ u. value u v) on.before)) fits;
       } in
-      record {
-        long = on.long;
-        before = upto_before g k s w r s on.long (λ v _. refl) on.before;
-        blocks = λ i above high. asked_from m e g r k i (inr left) on.blocks above high;
-        others = on.others;
-      }
+      onward_more m e g k s s r w (λ v _. refl) (inr left) on
 
-module _ (m : Meaning) (e : ℕ → Entry) (g : Group) (sound : Sound m) (apart : shares g ≡ false) where
   -- n blocks are left
   onward_listed : (n k : ℕ) (s r : Row) → k + n ≡ length g.blocks → Worked g k s
       → Member r (extended m e (drop k g.blocks) s) → Onward m e g k s r
@@ -111,10 +107,10 @@ module _ (m : Meaning) (e : ℕ → Entry) (g : Group) (sound : Sound m) (apart 
       (subst (λ bs. Member r (extended m e bs s)) (drop-next g.blocks k no_part low) h) in
       ⊎_elim
       (λ fit. let (f, good) = fits_from_member m e (block_at g k) s t w.long fit in
-      onward_fit m e g sound apart k s t r low w f good
+      onward_fit k s t r low w f good
       (onward_listed n (k + 1) t r all_next
       (worked_next g k s w t (f.long ∙ w.long) (others_from_completes g k s w apart low m.top t f)) on))
-      (λ left. onward_left m e g sound apart k s r low w
+      (λ left. onward_left k s r low w
       (λ u f good. subst (Member u) left.1 (member-fitting m e (block_at g k) s u f good))
       (onward_listed n (k + 1) s r all_next (worked_next g k s w s w.long (λ v _. refl))
       (subst (λ u. Member r (extended m e (drop (k + 1) g.blocks) u)) left.0 on)))
