@@ -1,15 +1,15 @@
 -- Laws of lists that ascend: ++, filter, map, flat_map, ranges, and how often an element stands in one.
 -- Assumes nothing.
-use Rattle.std.proofs.Common.{◌≡◌, ℕ, zero, suc, ◌+◌, ◌<◌, ◌≤◌, Bool, true, false, List, [], ◌∷◌, ◌++◌}
-use Rattle.std.proofs.Common.{map, refl, sym, ap, ◌∙◌, subst, ⊎_elim, arith, count_by, not, ◌&&◌, ◌≢◌, eqb}
+use Rattle.std.proofs.Common.{◌≡◌, ℕ, zero, suc, ◌+◌, ◌<◌, ◌≤◌, Bool, true, false, List, [], ◌∷◌, ◌++◌, map}
+use Rattle.std.proofs.Common.{refl, sym, ap, ◌∙◌, subst, ⊎_elim, arith, count_by, not, ◌&&◌, ◌≢◌, eqb}
 use Rattle.std.proofs.Math.Bool.{and-true}
 use Rattle.std.proofs.lemmas.Bool.{cases_Bool, cases_eq, false_from_ne_true, and_right, eq-eqb, ne_eqb}
 use Rattle.std.specs.List.{filter, flat_map, range_with_len, AllByRecursion}
 use Rattle.algebra.specs.Order.{Ascending}
+use Rattle.algebra.proofs.Lists.{filter-yes, filter-no, all-append, all-weaker, all-filter, all-map}
+use Rattle.algebra.proofs.Lists.{count_by-yes, count_by-no, count_by-none, filter-like, filter-filter}
+use Rattle.algebra.proofs.Lists.{filter-all}
 use Rattle.algebra.proofs.Ranges.{all-range}
-use Rattle.algebra.proofs.Lists.{filter-yes, filter-no, all-append, all-weaker, all-filter, all-map, count_by-yes, count_by-no}
-use Rattle.algebra.proofs.Lists.{count_by-none}
-use Rattle.algebra.proofs.Lists.{filter-like, filter-filter, filter-all}
 
 module _ {A : Type 0} (R : A → A → Type 0) where
   -- ++
@@ -84,8 +84,8 @@ ascending-range a (suc n) = (
   ascending-range (a + 1) n,
 )
 
--- what ascends, and passes p, begins with v: what passes a test q that differs at v alone, and there fails, is
--- the rest
+-- what ascends, and passes p, begins with v: what passes a test q that differs at v alone, and there fails,
+-- is the rest
 pub filter-rest : (p q : ℕ → Bool) (xs : List ℕ) (v : ℕ) (vs : List ℕ) → Ascending (λ x y. x < y) xs
     → filter p xs ≡ v ∷ vs → ((w : ℕ) → w ≢ v → p w ≡ q w) → q v ≡ false → filter q xs ≡ vs
 filter-rest p q xs v vs up e same off =
@@ -112,7 +112,8 @@ module _ {A : Type 0} (R : A → A → Type 0) (same : A → A → Bool)
   count_by-ascending (x ∷ xs) h =
       ⊎_elim
       (λ t. let later = count_by-none (same a) xs (all-weaker (R x) (λ y. same a y ≡ false)
-      (λ y l. false_from_ne_true (same a y) (λ w. never y (subst (λ z. R z y) (sym (equal a x t) ∙ equal a y w) l)))
+      (λ y l. false_from_ne_true (same a y)
+      (λ w. never y (subst (λ z. R z y) (sym (equal a x t) ∙ equal a y w) l)))
       xs h.0) in
       omega (arith, count_by-yes (same a) x xs t, later))
       (λ f. omega (arith, count_by-no (same a) x xs f, count_by-ascending xs h.1))

@@ -10,7 +10,7 @@ use Rattle.filter.specs.Rows.{Row, value}
 use Rattle.algebra.specs.Patterns.{with_value, terms, assignments}
 use Rattle.algebra.specs.Order.{Ascending}
 use Rattle.algebra.proofs.Lists.{all-weaker, all-flat_map}
-use Rattle.algebra.proofs.Members.{Member, member_has, member-flat_map}
+use Rattle.algebra.proofs.Members.{Member, has_from_member, member-flat_map}
 use Rattle.algebra.proofs.Ranges.{all-range, member-range}
 use Rattle.algebra.proofs.Rows.{value-with_same, value-with_other, length-with_value, inside_from_value}
 use Rattle.algebra.proofs.Rows.{row_from_values}
@@ -29,7 +29,7 @@ pub record Fills (top : ℕ) (vs : List ℕ) (r s : Row) : Type 0 where
 
 -- a variable that comes before all of vs is not one of them
 pub other_from_below : (v : ℕ) (vs : List ℕ) → AllByRecursion (λ w. v < w) vs → Member v vs → ⊥
-other_from_below v vs below h = let l = member_has (λ w. v < w) v vs below h in omega (arith, l)
+other_from_below v vs below h = let l = has_from_member (λ w. v < w) v vs below h in omega (arith, l)
 
 pub rising-rest : (r : Row) (v x : ℕ) (vs : List ℕ) → Rising (length r) (v ∷ vs)
     → Rising (length (with_value r v x)) vs
@@ -45,13 +45,13 @@ all-terms top =
 -- assignments
 
 -- with a term at v, the later variables are to be filled
-fills-more : (top v x : ℕ) (vs : List ℕ) (r s : Row) → Rising (length r) (v ∷ vs) → Term top x
+fills_from_rest : (top v x : ℕ) (vs : List ℕ) (r s : Row) → Rising (length r) (v ∷ vs) → Term top x
     → Fills top vs (with_value r v x) s → Fills top (v ∷ vs) r s
-fills-more top v x vs r s rising t f = record {
+fills_from_rest top v x vs r s rising t f = record {
   long = f.long ∙ length-with_value r v x;
   given = λ w h. ⊎_elim
-      (λ e. subst (Term top)
-      (sym (ap (value s) e ∙ f.kept v (other_from_below v vs rising.1.0) ∙ value-with_same r v x rising.0.0)) t)
+      (λ e. let own = f.kept v (other_from_below v vs rising.1.0) ∙ value-with_same r v x rising.0.0 in
+      subst (Term top) (sym (ap (value s) e ∙ own)) t)
       (f.given w) h;
   kept = λ w h. f.kept w (λ k. h (inr k)) ∙ value-with_other r v x w (λ e. h (inl e));
 }
@@ -64,14 +64,14 @@ all-assignments top (v ∷ vs) r rising =
     (all-weaker (Term top)
     (λ x. AllByRecursion (Fills top (v ∷ vs) r) (assignments top vs (with_value r v x)))
     (λ x t. all-weaker (Fills top vs (with_value r v x)) (Fills top (v ∷ vs) r)
-    (λ s f. fills-more top v x vs r s rising t f) (assignments top vs (with_value r v x))
+    (λ s f. fills_from_rest top v x vs r s rising t f) (assignments top vs (with_value r v x))
     (all-assignments top vs (with_value r v x) (rising-rest r v x vs rising)))
     (terms top) (all-terms top))
 
 -- what fills v and the later variables fills the later ones, once r has its value for v
-fills-fewer : (top v : ℕ) (vs : List ℕ) (r s : Row) → Fills top (v ∷ vs) r s
+fills-rest : (top v : ℕ) (vs : List ℕ) (r s : Row) → Fills top (v ∷ vs) r s
     → Fills top vs (with_value r v (value s v)) s
-fills-fewer top v vs r s f =
+fills-rest top v vs r s f =
     let inside = inside_from_value s v ((f.given v (inl refl)).positive) in
     record {
       long = f.long ∙ sym (length-with_value r v (value s v));
@@ -91,4 +91,4 @@ member-assignments top (v ∷ vs) r s f =
     let t = f.given v (inl refl) in
     member-flat_map (λ x. assignments top vs (with_value r v x)) s (value s v) (terms top)
     (member-range first_term top (value s v) t.positive (omega (arith, t.small)))
-    (member-assignments top vs (with_value r v (value s v)) s (fills-fewer top v vs r s f))
+    (member-assignments top vs (with_value r v (value s v)) s (fills-rest top v vs r s f))

@@ -5,10 +5,10 @@ use Rattle.algebra.specs.Algebra.{bgp}
 use Rattle.algebra.specs.Answers.{times}
 use Rattle.algebra.specs.Patterns.{blank, stored, completions}
 use Rattle.algebra.specs.Theorems.{BasicPatterns}
-use Rattle.algebra.proofs.Cardinalities.{times-filter}
+use Rattle.algebra.proofs.Rows.{length-blank, member_from_times}
 use Rattle.algebra.proofs.Completions.{completions-once}
 use Rattle.algebra.proofs.Fitting.{completes_from_stored}
-use Rattle.algebra.proofs.Rows.{length-blank, member_from_times}
+use Rattle.algebra.proofs.Cardinalities.{times-filter}
 
 pub basic_patterns : BasicPatterns
 basic_patterns m ts r =

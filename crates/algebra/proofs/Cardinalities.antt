@@ -1,7 +1,7 @@
 -- How often a row occurs in what the operators make, and that nothing but counts matters to them. Assumes
 -- nothing.
-use Rattle.std.proofs.Common.{◌≡◌, ℕ, ◌+◌, ◌<◌, Bool, true, false, cond, not, ◌&&◌, ◌||◌, List, [], ◌∷◌}
-use Rattle.std.proofs.Common.{◌++◌, map, eqb, refl, sym, ap, ap₂, ◌∙◌, arith, ⊎_elim}
+use Rattle.std.proofs.Common.{◌≡◌, ℕ, ◌+◌, ◌<◌, Bool, true, false, cond, not, ◌&&◌, ◌||◌, List, [], ◌∷◌, ◌++◌}
+use Rattle.std.proofs.Common.{map, eqb, refl, sym, ap, ap₂, ◌∙◌, arith, ⊎_elim}
 use Rattle.std.proofs.lemmas.Bool.{cases_Bool, cond-true, cond-false, ne_eqb}
 use Rattle.std.specs.List.{filter, list_all}
 use Rattle.query.specs.Lawful.{total}
@@ -9,8 +9,8 @@ use Rattle.filter.specs.Rows.{Row}
 use Rattle.algebra.specs.Algebra.{compatible, merge, join, diff}
 use Rattle.algebra.specs.Answers.{same_row, times}
 use Rattle.algebra.specs.Theorems.{CountedAsDefined, AsOften, OnlyCountsMatter}
-use Rattle.algebra.proofs.Lists.{total-flat_map, total-map, total-filter, total-like}
-use Rattle.algebra.proofs.Lists.{total-cond, cond-same, count_by-append, count_by-total}
+use Rattle.algebra.proofs.Lists.{total-flat_map, total-map, total-filter, total-like, total-cond, cond-same}
+use Rattle.algebra.proofs.Lists.{count_by-append, count_by-total}
 use Rattle.algebra.proofs.Rows.{equal_from_same_row, same_row-refl}
 
 -- what the row s counts for r
@@ -115,7 +115,8 @@ total-as_often w (r ∷ rows) others same =
 
 total-alike : (w : Row → ℕ) (rows others : List Row) → AsOften rows others → total w rows ≡ total w others
 total-alike w rows others same =
-    total-as_often w rows others (λ r. sym (count_by-total (same_row r) rows) ∙ same r ∙ count_by-total (same_row r) others)
+    total-as_often w rows others
+    (λ r. sym (count_by-total (same_row r) rows) ∙ same r ∙ count_by-total (same_row r) others)
 
 -- what a row that fails the test counts
 abbrev failing : (Row → Bool) → Row → ℕ

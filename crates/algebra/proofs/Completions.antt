@@ -1,7 +1,7 @@
 -- The variables that patterns leave open in a row, and the rows that complete it. Assumes nothing.
 --     Open ts r v     v is in the patterns, and has no value in r
-use Rattle.std.proofs.Common.{◌≡◌, ℕ, ◌+◌, ◌<◌, ◌≤◌, Bool, true, not, ◌&&◌, List, ◌∷◌, length}
-use Rattle.std.proofs.Common.{eqb, refl, sym, ap, subst, ⊎_elim, arith, inl, inr}
+use Rattle.std.proofs.Common.{◌≡◌, ℕ, ◌+◌, ◌<◌, ◌≤◌, Bool, true, not, ◌&&◌, List, ◌∷◌, length, eqb, refl, sym}
+use Rattle.std.proofs.Common.{ap, subst, ⊎_elim, arith, inl, inr}
 use Rattle.std.proofs.lemmas.Bool.{cases_Bool, cases_eq, cases_lt, and_parts, and_from, and_right, not-true}
 use Rattle.std.proofs.lemmas.Bool.{both_ways}
 use Rattle.std.specs.List.{AllByRecursion}
@@ -14,11 +14,11 @@ use Rattle.algebra.specs.Answers.{same_row, times}
 use Rattle.algebra.specs.Admissions.{Completes}
 use Rattle.algebra.specs.Order.{Ascending}
 use Rattle.algebra.proofs.Lists.{all-weaker, all-filter}
-use Rattle.algebra.proofs.Members.{Member, member_has, member-filter, member_from_filter}
+use Rattle.algebra.proofs.Members.{Member, has_from_member, member-filter, member_from_filter}
 use Rattle.algebra.proofs.Ranges.{all-range, member-range}
+use Rattle.algebra.proofs.Ascents.{ascending-range, ascending-filter, filter-rest, count_by-ascending}
 use Rattle.algebra.proofs.Rows.{value-with_same, value-with_other, none_from_has_value, has_value-none}
 use Rattle.algebra.proofs.Rows.{has_value-some, equal_from_same_row, times_from_member}
-use Rattle.algebra.proofs.Ascents.{ascending-range, ascending-filter, filter-rest, count_by-ascending}
 use Rattle.algebra.proofs.Assignments.{Rising, Fills, all-assignments, member-assignments}
 use Rattle.algebra.proofs.Flat.{Less, less-never, ascending-assignments}
 
@@ -45,7 +45,8 @@ module _ (ts : List TriplePattern) (r : Row) where
   open_from_member v h =
       let (there, passes) = member_from_filter lacking v numbers h in
       let (held, free) = and_parts (mentions v ts) (not (has_value r v)) passes in
-      let bound = member_has (λ x. (0 ≤ x) × (x < 0 + variables)) v numbers (all-range 0 variables) there in
+      let bound = has_from_member (λ x. (0 ≤ x) × (x < 0 + variables)) v numbers (all-range 0 variables)
+      there in
       record {
         inside = omega (arith, bound.1);
         held = held;

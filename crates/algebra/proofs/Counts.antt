@@ -1,7 +1,7 @@
 -- The algebra counts every answer as the listing does. Lists of which only counts matter are compared by
 -- their totals, whatever number each row counts with. Assumes nothing.
-use Rattle.std.proofs.Common.{◌≡◌, ℕ, ◌+◌, Bool, true, false, cond, not, ◌&&◌, ◌||◌}
-use Rattle.std.proofs.Common.{List, [], ◌∷◌, ◌++◌, map, map-id, refl, sym, ap, ap₂, ◌∙◌, subst, arith, ⊎_elim}
+use Rattle.std.proofs.Common.{◌≡◌, ℕ, ◌+◌, Bool, true, false, cond, not, ◌&&◌, ◌||◌, List, [], ◌∷◌, ◌++◌, map}
+use Rattle.std.proofs.Common.{map-id, refl, sym, ap, ap₂, ◌∙◌, subst, arith, ⊎_elim}
 use Rattle.std.proofs.lemmas.Bool.{cases_Bool, cases_lt}
 use Rattle.std.proofs.lemmas.List.Concat.{flat_map_single}
 use Rattle.std.specs.List.{filter, flat_map, list_all, AllByRecursion}
@@ -16,13 +16,14 @@ use Rattle.algebra.specs.Patterns.{blank, stored, completions}
 use Rattle.algebra.specs.Algebra.{bgp, compatible, merge, join, diff, left_join}
 use Rattle.algebra.specs.Answers.{left_joins, solutions, Answer, numbered, answers_from, answers_to}
 use Rattle.algebra.specs.Answers.{same_answer, times_answered}
-use Rattle.algebra.proofs.Listing.{fitting, or_itself, extended, rows_of, answers_of_from, answers_of}
-use Rattle.algebra.proofs.Lists.{all-append, all-weaker, all-filter, all-flat_map, flat_map-same, count_by-total}
-use Rattle.algebra.proofs.Lists.{flat_map-flat_map, filter-same, filter-flat_map, total-append}
-use Rattle.algebra.proofs.Lists.{total-flat_map, total-map, total-filter, total-like, total-plus}
+use Rattle.algebra.specs.Admissions.{Completes}
+use Rattle.algebra.proofs.Lists.{all-append, all-weaker, all-filter, all-flat_map, flat_map-same}
+use Rattle.algebra.proofs.Lists.{count_by-total, flat_map-flat_map, filter-same, filter-flat_map}
+use Rattle.algebra.proofs.Lists.{total-append, total-flat_map, total-map, total-filter, total-like}
+use Rattle.algebra.proofs.Lists.{total-plus}
 use Rattle.algebra.proofs.Rows.{value-blank, length-blank, answer_of}
 use Rattle.algebra.proofs.Completions.{kept_from_completes, all-completions}
-use Rattle.algebra.specs.Admissions.{Completes}
+use Rattle.algebra.proofs.Listing.{fitting, or_itself, extended, rows_of, answers_of_from, answers_of}
 use Rattle.algebra.proofs.Fitting.{all-fitting}
 use Rattle.algebra.proofs.Joins.{Valid, join-pattern}
 
@@ -44,11 +45,11 @@ valid_from_completes top ts r s h c = record {
       (cases_lt top (value s v));
 }
 
-valid-completions : (top : ℕ) (ts : List TriplePattern) (r : Row) → Valid top r
+all-valid : (top : ℕ) (ts : List TriplePattern) (r : Row) → Valid top r
     → AllByRecursion (Valid top) (completions top ts r)
-valid-completions top ts r h =
-    all-weaker (Completes top ts r) (Valid top) (λ s. valid_from_completes top ts r s h) (completions top ts r)
-    (all-completions top ts r h.long)
+all-valid top ts r h =
+    all-weaker (Completes top ts r) (Valid top) (λ s. valid_from_completes top ts r s h)
+    (completions top ts r) (all-completions top ts r h.long)
 
 -- left_join
 
@@ -57,27 +58,27 @@ abbrev vacant : {A : Type 0} → List A → Bool
 vacant [] = true
 vacant (x ∷ xs) = false
 
-vacant-cond : (t : Bool) (r : Row) (rows : List Row)
+and-vacant : (t : Bool) (r : Row) (rows : List Row)
     → (not t && vacant rows) ≡ vacant (cond t (r ∷ rows) rows)
-vacant-cond true r rows = refl
-vacant-cond false r rows = refl
+and-vacant true r rows = refl
+and-vacant false r rows = refl
 
 -- a row has no partner whose merge passes the test exactly if no merge passes it
-partners-vacant : (test : Row → Bool) (r : Row) (right : List Row)
+list_all-partners : (test : Row → Bool) (r : Row) (right : List Row)
     → list_all (λ s. not (compatible r s) || not (test (merge r s))) right
     ≡ vacant (filter test (map (merge r) (filter (compatible r) right)))
-partners-vacant test r [] = refl
-partners-vacant test r (s ∷ right) =
+list_all-partners test r [] = refl
+list_all-partners test r (s ∷ right) =
     let later = list_all (λ s. not (compatible r s) || not (test (merge r s))) right in
     let partners = filter (compatible r) right in
     let fails = not (test (merge r s)) in
     ⊎_elim
     (λ c. ap (λ b. (not b || fails) && later) c
-    ∙ ap (λ b. fails && b) (partners-vacant test r right)
-    ∙ vacant-cond (test (merge r s)) (merge r s) (filter test (map (merge r) partners))
+    ∙ ap (λ b. fails && b) (list_all-partners test r right)
+    ∙ and-vacant (test (merge r s)) (merge r s) (filter test (map (merge r) partners))
     ∙ ap (λ b. vacant (filter test (map (merge r) (cond b (s ∷ partners) partners)))) (sym c))
     (λ f. ap (λ b. (not b || fails) && later) f
-    ∙ partners-vacant test r right
+    ∙ list_all-partners test r right
     ∙ ap (λ b. vacant (filter test (map (merge r) (cond b (s ∷ partners) partners)))) (sym f))
     (cases_Bool (compatible r s))
 
@@ -105,34 +106,34 @@ total-left w fits left =
 module _ (m : Meaning) (test : Row → Bool) (ts : List TriplePattern) (left : List Row)
     (valid : AllByRecursion (Valid m.top) left) where
   -- the merges that pass the test are what the rows' completions fit
-  join-fits : filter test (join left (bgp m ts)) ≡ flat_map (fitting m test ts) left
-  join-fits =
+  filter-join : filter test (join left (bgp m ts)) ≡ flat_map (fitting m test ts) left
+  filter-join =
       filter-flat_map test (λ r. map (merge r) (filter (compatible r) (bgp m ts))) left
       ∙ flat_map-same _ _ left
       (all-weaker _ _ (λ r h. ap (filter test) (join-pattern m ts r h)) left valid)
 
-  diff-fits : diff test left (bgp m ts) ≡ filter (λ r. vacant (fitting m test ts r)) left
-  diff-fits =
+  diff-bgp : diff test left (bgp m ts) ≡ filter (λ r. vacant (fitting m test ts r)) left
+  diff-bgp =
       filter-same _ _ left
-      (all-weaker _ _ (λ r h. partners-vacant test r (bgp m ts)
+      (all-weaker _ _ (λ r h. list_all-partners test r (bgp m ts)
       ∙ ap (λ l. vacant (filter test l)) (join-pattern m ts r h)) left valid)
 
-  left_join-fits : left_join test left (bgp m ts)
+  left_join-bgp : left_join test left (bgp m ts)
       ≡ flat_map (fitting m test ts) left ++ filter (λ r. vacant (fitting m test ts r)) left
-  left_join-fits = ap₂ (λ xs ys. xs ++ ys) join-fits diff-fits
+  left_join-bgp = ap₂ (λ xs ys. xs ++ ys) filter-join diff-bgp
 
   -- a left join with a basic pattern counts as each row's fits, or where it has none the row itself
   total-left_join : (w : Row → ℕ)
       → total w (left_join test left (bgp m ts))
       ≡ total w (flat_map (λ r. or_itself r (fitting m test ts r)) left)
-  total-left_join w = ap (total w) left_join-fits ∙ total-left w (fitting m test ts) left
+  total-left_join w = ap (total w) left_join-bgp ∙ total-left w (fitting m test ts) left
 
-  valid-left_join : AllByRecursion (Valid m.top) (left_join test left (bgp m ts))
-  valid-left_join =
-      subst (AllByRecursion (Valid m.top)) (sym left_join-fits)
+  all-valid_left_join : AllByRecursion (Valid m.top) (left_join test left (bgp m ts))
+  all-valid_left_join =
+      subst (AllByRecursion (Valid m.top)) (sym left_join-bgp)
       (all-append (Valid m.top) _ _
       (all-flat_map (Valid m.top) (fitting m test ts) left
-      (all-weaker _ _ (λ r h. all-fitting (Valid m.top) m test ts r (valid-completions m.top ts r h)) left valid))
+      (all-weaker _ _ (λ r h. all-fitting (Valid m.top) m test ts r (all-valid m.top ts r h)) left valid))
       (all-filter (Valid m.top) _ left valid))
 
 -- left_joins, solutions, answers_to
@@ -148,7 +149,7 @@ module _ (m : Meaning) (e : ℕ → Entry) where
       let right = bgp m b.triples in
       let step = λ (r : Row). or_itself r (fitting m test b.triples r) in
       let later = λ (r : Row). total w (extended m e bs r) in
-      total-left_joins bs w (left_join test left right) (valid-left_join m test b.triples left valid)
+      total-left_joins bs w (left_join test left right) (all-valid_left_join m test b.triples left valid)
       ∙ total-flat_map w (extended m e bs) (left_join test left right)
       ∙ total-left_join m test b.triples left valid later
       ∙ sym (total-flat_map w (extended m e bs) (flat_map step left))
@@ -162,7 +163,7 @@ module _ (m : Meaning) (e : ℕ → Entry) where
       total-filter w test (left_joins m e first g.blocks)
       ∙ total-left_joins g.blocks (λ r. cond (test r) (w r) 0) first
       (all-filter (Valid m.top) (stored m g.required) (completions m.top g.required blank)
-      (valid-completions m.top g.required blank (valid-blank m.top)))
+      (all-valid m.top g.required blank (valid-blank m.top)))
       ∙ sym (total-filter w test (flat_map (extended m e g.blocks) first))
 
   total-answers : (w : Answer → ℕ) (a : ℕ) (q : List Group)

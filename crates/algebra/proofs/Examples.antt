@@ -2,14 +2,14 @@
 use Rattle.std.proofs.Common.{◌≡◌, true, List, [], ◌∷◌, None, refl, subst, ⊎_elim, sym}
 use Rattle.std.proofs.lemmas.Bool.{or_cases, true≢false, false≢true}
 use Rattle.std.specs.List.{AllByRecursion}
+use Rattle.varint.specs.Encode.{encode}
+use Rattle.varint.specs.Decode.{decode}
+use Rattle.query.specs.Grammar.{verdict}
 use Rattle.triples.specs.declared.triple.Triple.{Triple}
 use Rattle.triples.specs.Meaning.{among}
 use Rattle.triples.specs.Order.{same}
 use Rattle.triples.specs.Seeks.{Candidate, Sought}
 use Rattle.triples.proofs.Order.{same_is}
-use Rattle.varint.specs.Encode.{encode}
-use Rattle.varint.specs.Decode.{decode}
-use Rattle.query.specs.Grammar.{verdict}
 use Rattle.algebra.specs.Deliveries.{triple, selector, deliveries}
 use Rattle.algebra.specs.Examples.{WorkedExamples}
 

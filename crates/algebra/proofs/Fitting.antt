@@ -13,9 +13,9 @@ use Rattle.algebra.specs.Patterns.{stored, completions}
 use Rattle.algebra.specs.Admissions.{Completes}
 use Rattle.algebra.specs.Order.{Ascending}
 use Rattle.algebra.specs.Words.{Fits}
-use Rattle.algebra.proofs.Ascents.{ascending-filter}
 use Rattle.algebra.proofs.Lists.{all-filter}
-use Rattle.algebra.proofs.Members.{Member, member_has, member-filter, member_from_filter}
+use Rattle.algebra.proofs.Members.{Member, has_from_member, member-filter, member_from_filter}
+use Rattle.algebra.proofs.Ascents.{ascending-filter}
 use Rattle.algebra.proofs.Completions.{all-completions, member-completions}
 use Rattle.algebra.proofs.Listing.{fitting, or_itself}
 
@@ -45,7 +45,8 @@ module _ (m : Meaning) (ts : List TriplePattern) (r s : Row) where
       → Completes m.top ts r s × (stored m ts s ≡ true)
   completes_from_stored long h =
       let (there, held) = member_from_filter (stored m ts) s (completions m.top ts r) h in
-      (member_has (Completes m.top ts r) s (completions m.top ts r) (all-completions m.top ts r long) there, held)
+      let all = all-completions m.top ts r long in
+      (has_from_member (Completes m.top ts r) s (completions m.top ts r) all there, held)
 
   pub member-stored : Completes m.top ts r s → stored m ts s ≡ true
       → Member s (filter (stored m ts) (completions m.top ts r))
@@ -66,8 +67,8 @@ module _ (m : Meaning) (e : ℕ → Entry) (b : Part) (r s : Row) where
   pub member-fitting : Completes m.top b.triples r s → Fits m e b s
       → Member s (fitting m (passes e b.filter) b.triples r)
   member-fitting c fits =
-      member-filter (passes e b.filter) s (filter (stored m b.triples) (completions m.top b.triples r)) fits.filter
-      (member-stored m b.triples r s c fits.triples)
+      member-filter (passes e b.filter) s (filter (stored m b.triples) (completions m.top b.triples r))
+      fits.filter (member-stored m b.triples r s c fits.triples)
 
 -- or_itself
 

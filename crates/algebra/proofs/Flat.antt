@@ -12,7 +12,7 @@ use Rattle.filter.specs.Rows.{Row, value}
 use Rattle.algebra.specs.Patterns.{with_value, numbers, terms, assignments}
 use Rattle.algebra.specs.Order.{Ascending}
 use Rattle.algebra.proofs.Lists.{all-weaker, all-every}
-use Rattle.algebra.proofs.Members.{Member, member_has, member-filter, member_from_filter}
+use Rattle.algebra.proofs.Members.{Member, has_from_member, member-filter, member_from_filter}
 use Rattle.algebra.proofs.Ranges.{member-range}
 use Rattle.algebra.proofs.Ascents.{ascending-filter, ascending-weaker, ascending-flat_map, ascending-range}
 use Rattle.algebra.proofs.Rows.{value-with_same, equal_past}
@@ -48,9 +48,9 @@ pub record Lowest (p : ℕ → Bool) (r s : Row) : Type 0 where
   pub lower : (w : ℕ) → p w ≡ true → w < variable → value r w ≡ value s w
 
 -- the lowest variable at which two rows differ stays, where the values at such variables stay
-pub lowest-kept : (p : ℕ → Bool) (r s t u : Row) → ((v : ℕ) → p v ≡ true → value t v ≡ value r v)
+pub lowest_from_kept : (p : ℕ → Bool) (r s t u : Row) → ((v : ℕ) → p v ≡ true → value t v ≡ value r v)
     → ((v : ℕ) → p v ≡ true → value u v ≡ value s v) → Lowest p r s → Lowest p t u
-lowest-kept p r s t u one other l = record {
+lowest_from_kept p r s t u one other l = record {
   variable = l.variable;
   own = l.own;
   smaller = subst₂ (λ x y. x < y) (sym (one l.variable l.own)) (sym (other l.variable l.own)) l.smaller;
@@ -70,7 +70,7 @@ lowest_from_less p r s (v ∷ vs) up own same h =
       own = own v (inl refl);
       smaller = l;
       lower = λ w t k. same w t (⊎_elim (λ e. omega (arith, e, k))
-          (λ i. let later = member_has (λ x. v < x) w vs up.0 i in omega (arith, later, k)));
+          (λ i. let later = has_from_member (λ x. v < x) w vs up.0 i in omega (arith, later, k)));
     })
     (λ k. lowest_from_less p r s vs up.1 (λ w i. own w (inr i))
     (λ w t out. ⊎_elim (λ e. subst (λ x. value r x ≡ value s x) (sym e) k.0) (λ ne. same w t (⊎_elim ne out))
@@ -110,8 +110,8 @@ ascending-assignments top (v ∷ vs) r h =
     let into : ℕ → Row = (λ x. with_value r v x) in
     let gives : (x : ℕ) → AllByRecursion (λ s. value s v ≡ x) (assignments top vs (into x)) =
     (λ x. all-weaker (Fills top vs (into x)) (λ s. value s v ≡ x)
-    (λ s f. f.kept v (other_from_below v vs h.1.0) ∙ value-with_same r v x h.0.0) (assignments top vs (into x))
-    (all-assignments top vs (into x) (rising-rest r v x vs h))) in
+    (λ s f. f.kept v (other_from_below v vs h.1.0) ∙ value-with_same r v x h.0.0)
+    (assignments top vs (into x)) (all-assignments top vs (into x) (rising-rest r v x vs h))) in
     ascending-flat_map (λ x. Unit {0}) (λ x y. x < y) (Less (v ∷ vs)) (λ x s. value s v ≡ x)
     (λ x. assignments top vs (into x)) (λ x _. gives x)
     (λ x y _ _ l b c p q. inl (subst₂ (λ i j. i < j) (sym p) (sym q) l))

@@ -1,9 +1,9 @@
 -- The join of a row with a basic graph pattern: its merges are the completions of the row that are in the
 -- store, in the same order. Assumes nothing.
 --     Valid top r     r has sixteen values, each none or a term from 1 to top
-use Rattle.std.proofs.Common.{◌≡◌, ℕ, zero, suc, ◌+◌, ◌<◌, ◌≤◌, ◌≢◌, Bool, true, false, cond, not, ◌&&◌}
-use Rattle.std.proofs.Common.{List, [], ◌∷◌, map, length, refl, sym, ap, ◌∙◌, arith}
-use Rattle.std.proofs.Common.{⊎_elim, true≢false, replicate, subst, eq-eqb, ne_eqb}
+use Rattle.std.proofs.Common.{◌≡◌, ℕ, zero, suc, ◌+◌, ◌<◌, ◌≤◌, ◌≢◌, Bool, true, false, cond, not, ◌&&◌, List}
+use Rattle.std.proofs.Common.{[], ◌∷◌, map, length, refl, sym, ap, ◌∙◌, arith, ⊎_elim, true≢false, replicate}
+use Rattle.std.proofs.Common.{subst, eq-eqb, ne_eqb}
 use Rattle.std.proofs.lemmas.Bool.{and_left, and_right, and_from, cases_Bool, cases_eq, cases_lt, cond-false}
 use Rattle.std.specs.List.{filter, flat_map, range_with_len}
 use Rattle.query.specs.declared.pattern.TriplePattern.{TriplePattern}
@@ -15,13 +15,12 @@ use Rattle.algebra.specs.Patterns.{blank, with_value, stored, open_variables, te
 use Rattle.algebra.specs.Algebra.{bgp, agree, compatible, merge}
 use Rattle.algebra.proofs.Lists.{filter-yes, filter-no, filter-flat_map, flat_map-same, map-flat_map}
 use Rattle.algebra.proofs.Lists.{all-weaker, cond-same, map-cond, flat_map-cond}
+use Rattle.algebra.proofs.Ranges.{all-range, flat_map-one}
 use Rattle.algebra.proofs.Rows.{value-with_same, value-with_other, length-with_value, equal_past, value-blank}
 use Rattle.algebra.proofs.Rows.{length-blank, some_from_has_value, none_from_has_value}
-use Rattle.algebra.proofs.Ranges.{all-range, flat_map-one}
 use Rattle.algebra.proofs.Patterns.{stored-same, open_variables-blank}
-use Rattle.algebra.proofs.Merging.{agree-none, agree-values, compatible-with_value}
-use Rattle.algebra.proofs.Merging.{compatible-none, merge-none, merge-free, merge-bound, length-merge}
-use Rattle.algebra.proofs.Merging.{value-merge}
+use Rattle.algebra.proofs.Merging.{agree-none, agree-values, compatible-with_value, compatible-none}
+use Rattle.algebra.proofs.Merging.{merge-none, merge-free, merge-bound, length-merge, value-merge}
 
 -- the row has sixteen values, each none or a term from 1 to the top
 pub record Valid (top : ℕ) (r : Row) : Type 0 where

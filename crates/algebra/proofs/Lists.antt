@@ -1,7 +1,7 @@
 -- Laws of lists by the operation: All, flat_map, filter, the weight of a list, which is the total of a number
 -- given to each of its elements, counts, list_all, cond, and drop. Assumes nothing.
-use Rattle.std.proofs.Common.{◌≡◌, ℕ, ◌+◌, Bool, true, false, cond, ◌&&◌, List, [], ◌∷◌, ◌++◌, map}
-use Rattle.std.proofs.Common.{refl, sym, ap, ◌∙◌, subst, ⊎_elim, arith, count_by, ◌<◌, suc, length, get_or, drop}
+use Rattle.std.proofs.Common.{◌≡◌, ℕ, ◌+◌, Bool, true, false, cond, ◌&&◌, List, [], ◌∷◌, ◌++◌, map, refl, sym}
+use Rattle.std.proofs.Common.{ap, ◌∙◌, subst, ⊎_elim, arith, count_by, ◌<◌, suc, length, get_or, drop}
 use Rattle.std.proofs.Math.Seq.{drop-cons}
 use Rattle.std.proofs.lemmas.Bool.{cases_Bool, cond-true, cond-false, and_parts}
 use Rattle.std.proofs.lemmas.Grind.{flat_map-append}
@@ -208,7 +208,8 @@ module _ {A : Type 0} (p : A → Bool) where
 pub count_by-map : {A B : Type 0} (p : A → Bool) (f : B → A) (xs : List B)
     → count_by p (map f xs) ≡ count_by (λ x. p (f x)) xs
 count_by-map p f xs =
-    count_by-total p (map f xs) ∙ total-map (λ x. cond (p x) 1 0) f xs ∙ sym (count_by-total (λ x. p (f x)) xs)
+    count_by-total p (map f xs) ∙ total-map (λ x. cond (p x) 1 0) f xs
+    ∙ sym (count_by-total (λ x. p (f x)) xs)
 
 -- list_all
 
@@ -224,7 +225,8 @@ pub cond-same : {A : Type 0} (b : Bool) (x : A) → cond b x x ≡ x
 cond-same true x = refl
 cond-same false x = refl
 
-pub map-cond : {A B : Type 0} (f : A → B) (b : Bool) (x : A) → map f (cond b (x ∷ []) []) ≡ cond b (f x ∷ []) []
+pub map-cond : {A B : Type 0} (f : A → B) (b : Bool) (x : A)
+    → map f (cond b (x ∷ []) []) ≡ cond b (f x ∷ []) []
 map-cond f true x = refl
 map-cond f false x = refl
 

@@ -1,19 +1,19 @@
 -- What the look-ahead asks of a pattern: that some triple of the store matches it. Assumes nothing.
 --     look_ahead_in_words     a pattern is possible exactly if a triple of the store matches it
-use Rattle.std.proofs.Common.{◌≡◌, ℕ, ◌<◌, true, false, cond, not, ◌≢◌, leb}
-use Rattle.std.proofs.Common.{List, [], ◌∷◌, map, length, refl, sym, ap, ◌∙◌, subst, inl, inr, ⊎_elim, arith}
-use Rattle.std.proofs.lemmas.Bool.{cases_lt, cond-true, and_parts, and_from}
-use Rattle.std.proofs.lemmas.Bool.{or_from, or_parts, cases_eq, cond_both, eqb-true, eq-eqb, leb-true, both_ways}
+use Rattle.std.proofs.Common.{◌≡◌, ℕ, ◌<◌, true, false, cond, not, ◌≢◌, leb, List, [], ◌∷◌, map, length, refl}
+use Rattle.std.proofs.Common.{sym, ap, ◌∙◌, subst, inl, inr, ⊎_elim, arith}
+use Rattle.std.proofs.lemmas.Bool.{cases_lt, cond-true, and_parts, and_from, or_from, or_parts, cases_eq}
+use Rattle.std.proofs.lemmas.Bool.{cond_both, eqb-true, eq-eqb, leb-true, both_ways}
 use Rattle.std.proofs.lemmas.List.FromFn.{length-map-range_with_len}
 use Rattle.std.specs.List.{AllByRecursion, flat_map, list_all, list_any}
 use Rattle.query.specs.declared.place.Place.{Place}
 use Rattle.query.specs.declared.place.Place.TheVariants as place
 use Rattle.query.specs.declared.pattern.TriplePattern.{TriplePattern}
-use Rattle.query.specs.Lawful.{mentions, is_variable, lawful_triple, lawful_triples, lawful_filter, lawful_part}
-use Rattle.query.specs.Lawful.{lawful_group, limited, shares, lawful}
+use Rattle.query.specs.Lawful.{mentions, is_variable, lawful_triple, lawful_triples, lawful_filter}
+use Rattle.query.specs.Lawful.{lawful_part, lawful_group, limited, shares, lawful}
 use Rattle.query.specs.Parts.{Group}
-use Rattle.query.proofs.Limits.{group_limits, query_limits}
 use Rattle.query.specs.Limits.{variables, most_variable, most_term, most_in_part, within, lawful_place}
+use Rattle.query.proofs.Limits.{group_limits, query_limits}
 use Rattle.triples.specs.declared.triple.Triple.{Triple}
 use Rattle.triples.specs.Meaning.{Meaning, Sound, Term, Terms}
 use Rattle.filter.specs.Rows.{Row, none, value, number_at}
@@ -22,11 +22,11 @@ use Rattle.algebra.specs.Admissions.{Completes, Allows, Matches}
 use Rattle.algebra.specs.Order.{parts_of}
 use Rattle.algebra.specs.Theorems.{PossibleInWords, LookAheadInWords, patterns_of}
 use Rattle.algebra.proofs.Lists.{all-map, all-flat_map, all_from_list_all}
-use Rattle.algebra.proofs.Members.{member_has, member_from_any}
+use Rattle.algebra.proofs.Members.{has_from_member, member_from_any}
 use Rattle.algebra.proofs.Rows.{equal_past, value-map}
 use Rattle.algebra.proofs.Patterns.{in_triple, in_subject, in_property, in_object}
 use Rattle.algebra.proofs.Completions.{all-completions}
-use Rattle.algebra.proofs.Pruning.{pattern-possible}
+use Rattle.algebra.proofs.Pruning.{possible_from_stored}
 
 -- places and triples
 
@@ -46,28 +46,28 @@ same_triple a b subject property object =
 -- from a completion to a triple
 
 -- a value that a completion has at a place is one that the place allows
-allows-completed : (top : ℕ) (ts : List TriplePattern) (r s : Row) → Completes top ts r s → (p : Place)
+allows_from_completes : (top : ℕ) (ts : List TriplePattern) (r s : Row) → Completes top ts r s → (p : Place)
     → Allows r p (number_at s p)
-allows-completed top ts r s done (place.Term n) = inr refl
-allows-completed top ts r s done (place.Variable v) =
+allows_from_completes top ts r s done (place.Term n) = inr refl
+allows_from_completes top ts r s done (place.Variable v) =
     ⊎_elim inl (λ some. inr (sym (done.kept v (inr (inr some))))) (cases_eq (value r v) none)
 
-matched-completed : (top : ℕ) (ts : List TriplePattern) (r s : Row) → Completes top ts r s
+matches_from_completes : (top : ℕ) (ts : List TriplePattern) (r s : Row) → Completes top ts r s
     → (t : TriplePattern) → Matches r t (triple_under s t)
-matched-completed top ts r s done t = record {
-  subject = allows-completed top ts r s done t.subject;
-  property = allows-completed top ts r s done t.property;
-  object = allows-completed top ts r s done t.object;
+matches_from_completes top ts r s done t = record {
+  subject = allows_from_completes top ts r s done t.subject;
+  property = allows_from_completes top ts r s done t.property;
+  object = allows_from_completes top ts r s done t.object;
   subject_property = ap (number_at s);
   subject_object = ap (number_at s);
   property_object = ap (number_at s);
 }
 
 -- what a place allows is the value that the variable there has
-allowed-value : (r : Row) (p : Place) (n v : ℕ) → is_variable v p ≡ true → Allows r p n → value r v ≢ none
+value_from_allows : (r : Row) (p : Place) (n v : ℕ) → is_variable v p ≡ true → Allows r p n → value r v ≢ none
     → n ≡ value r v
-allowed-value r (place.Term m) n v here allows has = absurd (both_ways false refl here)
-allowed-value r (place.Variable w) n v here allows has =
+value_from_allows r (place.Term m) n v here allows has = absurd (both_ways false refl here)
+value_from_allows r (place.Variable w) n v here allows has =
     let e : v ≡ w = eqb-true v w here in
     ⊎_elim
     (λ nothing. absurd (has (ap (value r) e ∙ nothing)))
@@ -148,9 +148,9 @@ module _ (r : Row) (t : TriplePattern) (u : Triple) (matches : Matches r t u) wh
   picked-kept : (v : ℕ) → value r v ≢ none → picked r t u v ≡ value r v
   picked-kept v some =
       picked-each r t u v (λ n. n ≡ value r v)
-      (λ k. allowed-value r t.subject u.subject v k matches.subject some)
-      (λ k. allowed-value r t.property u.property v k matches.property some)
-      (λ k. allowed-value r t.object u.object v k matches.object some)
+      (λ k. value_from_allows r t.subject u.subject v k matches.subject some)
+      (λ k. value_from_allows r t.property u.property v k matches.property some)
+      (λ k. value_from_allows r t.object u.object v k matches.object some)
       (λ k. refl)
 
   -- so is what the row has for a variable that is not in the pattern
@@ -162,30 +162,31 @@ module _ (r : Row) (t : TriplePattern) (u : Triple) (matches : Matches r t u) wh
       (λ k. absurd (both_ways (in_triple v t) free (in_object v t k)))
       (λ k. refl)
 
-  filled-completes : (top : ℕ) → Terms top u → length r ≡ variables → Completes top (t ∷ []) r (filled r t u)
-  filled-completes top terms long = record {
+  completes-filled : (top : ℕ) → Terms top u → length r ≡ variables → Completes top (t ∷ []) r (filled r t u)
+  completes-filled top terms long = record {
     long = length-filled r t u ∙ sym long;
     given = λ v below inside nothing. subst (Term top) (sym (value-filled r t u v below))
         (picked-each r t u v (Term top) (λ k. terms.subject) (λ k. terms.property) (λ k. terms.object)
         (λ free. absurd (both_ways (mentions v (t ∷ [])) (or_from _ false free refl) inside)));
     kept = λ v h. ⊎_elim
         (λ below. value-filled r t u v below
-        ∙ ⊎_elim (λ past. absurd (omega (arith, below, past))) (⊎_elim (λ lacks. picked-other v ((or_parts _ false lacks).0)) (picked-kept v)) h)
+        ∙ ⊎_elim (λ past. absurd (omega (arith, below, past)))
+        (⊎_elim (λ lacks. picked-other v ((or_parts _ false lacks).0)) (picked-kept v)) h)
         (equal_past (filled r t u) r variables (length-filled r t u) long v)
         (cases_lt v variables);
   }
 
 -- a pattern is possible exactly if some triple of the store matches it
-possible-matched : (m : Meaning) (t : TriplePattern) → Sound m → lawful_triple t ≡ true → PossibleInWords m t
-possible-matched m t sound lawful r long = (
+possible_in_words : (m : Meaning) (t : TriplePattern) → Sound m → lawful_triple t ≡ true → PossibleInWords m t
+possible_in_words m t sound lawful r long = (
   λ h. let (s, there, held) = member_from_any (stored m (t ∷ [])) (completions m.top (t ∷ []) r) h in
-      let done = member_has (Completes m.top (t ∷ []) r) s (completions m.top (t ∷ []) r)
+      let done = has_from_member (Completes m.top (t ∷ []) r) s (completions m.top (t ∷ []) r)
       (all-completions m.top (t ∷ []) r long) there in
       (triple_under s t, (and_parts (m.has (triple_under s t)) true held).0,
-          matched-completed m.top (t ∷ []) r s done t),
+          matches_from_completes m.top (t ∷ []) r s done t),
   λ u has matches.
-      pattern-possible m (t ∷ []) r (filled r t u)
-      (filled-completes r t u matches m.top (sound.terms u has) long) t (λ v h. h)
+      possible_from_stored m (t ∷ []) r (filled r t u)
+      (completes-filled r t u matches m.top (sound.terms u has) long) t (λ v h. h)
       (and_from (m.has (triple_under (filled r t u) t)) true
       (ap m.has (triple_under-filled r t u matches lawful) ∙ has) refl),
 )
@@ -205,16 +206,18 @@ module _ (P : TriplePattern → Type 0) (has : (t : TriplePattern) → lawful_tr
         all-part 0 g.required l.required,
         all-map (AllByRecursion P) (λ b. b.triples) g.blocks
             (all_from_list_all (λ b. AllByRecursion P b.triples) lawful_part
-            (λ b k. all-part 1 b.triples (and_parts (lawful_triples 1 b.triples) (lawful_filter b.filter) k).0)
+            (λ b k. all-part 1 b.triples
+            (and_parts (lawful_triples 1 b.triples) (lawful_filter b.filter) k).0)
             g.blocks l.blocks),
       )
 
   all-patterns : (q : List Group) → list_all lawful_group q ≡ true → AllByRecursion P (patterns_of q)
   all-patterns q h =
       all-flat_map P (λ g. flat_map (λ ts. ts) (parts_of g)) q
-      (all_from_list_all (λ g. AllByRecursion P (flat_map (λ ts. ts) (parts_of g))) lawful_group all-parts q h)
+      (all_from_list_all (λ g. AllByRecursion P (flat_map (λ ts. ts) (parts_of g))) lawful_group all-parts
+      q h)
 
 pub look_ahead_in_words : (m : Meaning) (q : List Group) → Sound m → lawful q ≡ true → LookAheadInWords m q
 look_ahead_in_words m q sound h =
-    all-patterns (PossibleInWords m) (λ t. possible-matched m t sound) q
+    all-patterns (PossibleInWords m) (λ t. possible_in_words m t sound) q
     (query_limits q (and_parts (limited q) (not (list_any shares q)) h).0).groups

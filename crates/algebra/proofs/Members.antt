@@ -1,7 +1,7 @@
 -- Elements of lists, by the operation that made the list. Assumes nothing.
 --     Member x xs     x is an element of xs
-use Rattle.std.proofs.Common.{◌≡◌, ◌<◌, Bool, true, false, ◌||◌, ◌⊎◌, List, [], ◌∷◌, ◌++◌, count_by}
-use Rattle.std.proofs.Common.{refl, sym, ap, ◌∙◌, subst, inl, inr, ⊎_elim, arith}
+use Rattle.std.proofs.Common.{◌≡◌, ◌<◌, Bool, true, false, ◌||◌, ◌⊎◌, List, [], ◌∷◌, ◌++◌, count_by, refl}
+use Rattle.std.proofs.Common.{sym, ap, ◌∙◌, subst, inl, inr, ⊎_elim, arith}
 use Rattle.std.proofs.lemmas.Bool.{cases_Bool, or_left, or_right, both_ways}
 use Rattle.std.specs.List.{filter, flat_map, list_any, AllByRecursion}
 use Rattle.algebra.proofs.Lists.{filter-yes, filter-no, count_by-yes, count_by-no}
@@ -18,9 +18,10 @@ nil_from_members (x ∷ xs) none = absurd (none x (inl refl))
 
 -- All
 
-pub member_has : {A : Type 0} (P : A → Type 0) (x : A) (xs : List A) → AllByRecursion P xs → Member x xs → P x
-member_has P x [] h k = absurd k
-member_has P x (y ∷ ys) h k = ⊎_elim (λ e. subst P (sym e) h.0) (member_has P x ys h.1) k
+pub has_from_member : {A : Type 0} (P : A → Type 0) (x : A) (xs : List A) → AllByRecursion P xs
+    → Member x xs → P x
+has_from_member P x [] h k = absurd k
+has_from_member P x (y ∷ ys) h k = ⊎_elim (λ e. subst P (sym e) h.0) (has_from_member P x ys h.1) k
 
 -- ++
 

@@ -1,7 +1,6 @@
 -- Laws of the comparing and the merging of rows. Assumes nothing.
-use Rattle.std.proofs.Common.{◌≡◌, ℕ, zero, suc, Bool, true, false, ◌&&◌, ◌||◌, [], ◌∷◌, length}
-use Rattle.std.proofs.Common.{eqb, ◌≢◌, refl, sym, ap, ap₂, ◌∙◌, ⊎_elim, eq-eqb, ne_eqb, eqb-true, replicate}
-use Rattle.std.proofs.Common.{arith}
+use Rattle.std.proofs.Common.{◌≡◌, ℕ, zero, suc, Bool, true, false, ◌&&◌, ◌||◌, [], ◌∷◌, length, eqb, ◌≢◌}
+use Rattle.std.proofs.Common.{refl, sym, ap, ap₂, ◌∙◌, ⊎_elim, eq-eqb, ne_eqb, eqb-true, replicate, arith}
 use Rattle.std.proofs.lemmas.Bool.{and_parts, and_right, or_right, cond-true, cond-false, cases_eq}
 use Rattle.filter.specs.Rows.{Row, none, value}
 use Rattle.algebra.specs.Patterns.{with_value}

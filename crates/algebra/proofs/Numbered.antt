@@ -1,22 +1,21 @@
 -- How often an answer is among the answers of a query: as often as its row is among the solutions of its
 -- alternative. Assumes nothing.
 use Rattle.std.proofs.Common.{◌≡◌, ℕ, zero, suc, ◌+◌, ◌<◌, ◌≤◌, Bool, true, false, ◌&&◌, List, [], ◌∷◌}
-use Rattle.std.proofs.Common.{length, get_or, eqb, refl, ap, ◌∙◌, subst, arith}
+use Rattle.std.proofs.Common.{length, get_or, eqb, refl, ap, ◌∙◌, subst, arith, ◌≢◌, count_by}
 use Rattle.std.proofs.lemmas.Bool.{eq-eqb, ne_eqb}
-use Rattle.std.proofs.Common.{◌≢◌, count_by}
 use Rattle.catalogue.specs.Entries.{Entry}
 use Rattle.query.specs.Lawful.{lawful}
 use Rattle.query.specs.Parts.{Group}
 use Rattle.triples.specs.Meaning.{Meaning}
 use Rattle.filter.specs.Rows.{Row}
-use Rattle.algebra.specs.Answers.{Answer, numbered, answers_from, solutions, same_answer}
-use Rattle.algebra.specs.Answers.{same_row, times, times_answered}
+use Rattle.algebra.specs.Answers.{Answer, numbered, answers_from, solutions, same_answer, same_row, times}
+use Rattle.algebra.specs.Answers.{times_answered}
 use Rattle.algebra.specs.Order.{no_group}
 use Rattle.algebra.specs.Theorems.{OnceInEach}
-use Rattle.algebra.proofs.Counts.{listing_counts}
 use Rattle.algebra.proofs.Lists.{all-every, count_by-append, count_by-map, count_by-none}
-use Rattle.algebra.proofs.Ordered.{listing_once}
 use Rattle.algebra.proofs.Rows.{answer_of}
+use Rattle.algebra.proofs.Counts.{listing_counts}
+use Rattle.algebra.proofs.Ordered.{listing_once}
 
 -- numbered
 
@@ -24,7 +23,8 @@ use Rattle.algebra.proofs.Rows.{answer_of}
 times-numbered : (x : Answer) (a : ℕ) (rows : List Row) (b : Bool) → eqb x.alternative a ≡ b
     → times_answered x (numbered a rows) ≡ count_by (λ r. b && same_row x.row r) rows
 times-numbered x a rows b same =
-    count_by-map (same_answer x) (answer_of a) rows ∙ ap (λ c. count_by (λ r. c && same_row x.row r) rows) same
+    count_by-map (same_answer x) (answer_of a) rows
+    ∙ ap (λ c. count_by (λ r. c && same_row x.row r) rows) same
 
 times-numbered_own : (x : Answer) (a : ℕ) (rows : List Row) → x.alternative ≡ a
     → times_answered x (numbered a rows) ≡ times x.row rows

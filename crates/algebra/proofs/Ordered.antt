@@ -1,9 +1,9 @@
 -- The listing ascends, so it has nothing twice. Assumes nothing.
-use Rattle.std.proofs.Common.{◌≡◌, ℕ, suc, ◌+◌, ◌<◌, ◌≤◌, true, false, not, ◌&&◌, ◌⊎◌, List, [], ◌∷◌}
-use Rattle.std.proofs.Common.{map, length, slice_index_or, refl, sym, ap, ◌∙◌, subst, ⊎_elim, inl, inr}
-use Rattle.std.proofs.Common.{append-nil, add-zero, zero-add, arith}
-use Rattle.std.proofs.lemmas.Bool.{cases_Bool, cases_lt, both_ways, or_parts, and_cases}
-use Rattle.std.proofs.lemmas.Bool.{and_parts, and_from, not-true, false_from_ne_true, not_from_false}
+use Rattle.std.proofs.Common.{◌≡◌, ℕ, suc, ◌+◌, ◌<◌, ◌≤◌, true, false, not, ◌&&◌, ◌⊎◌, List, [], ◌∷◌, map}
+use Rattle.std.proofs.Common.{length, slice_index_or, refl, sym, ap, ◌∙◌, subst, ⊎_elim, inl, inr, append-nil}
+use Rattle.std.proofs.Common.{add-zero, zero-add, arith}
+use Rattle.std.proofs.lemmas.Bool.{cases_Bool, cases_lt, both_ways, or_parts, and_cases, and_parts, and_from}
+use Rattle.std.proofs.lemmas.Bool.{not-true, false_from_ne_true, not_from_false}
 use Rattle.std.specs.List.{filter, flat_map, list_any, AllByRecursion}
 use Rattle.catalogue.specs.Entries.{Entry}
 use Rattle.query.specs.declared.pattern.TriplePattern.{TriplePattern}
@@ -18,17 +18,18 @@ use Rattle.algebra.specs.Patterns.{blank, stored, completions, open_variables}
 use Rattle.algebra.specs.Answers.{Answer, numbered, same_row, same_answer, times, times_answered}
 use Rattle.algebra.specs.Order.{parts_of, no_group, Before, Precedes, Ascending}
 use Rattle.algebra.proofs.Lists.{all-every, all-append, all-map, all-filter, all-weaker}
-use Rattle.algebra.proofs.Rows.{length-blank, equal_from_same_row, equal_from_same_answer, equal_past, answer_of}
-use Rattle.algebra.proofs.Listing.{fitting, or_itself, extended, rows_of, answers_of_from, answers_of}
 use Rattle.algebra.proofs.Ascents.{ascending-append, ascending-filter, ascending-map, ascending-weaker}
 use Rattle.algebra.proofs.Ascents.{ascending-flat_map, count_by-ascending}
-use Rattle.algebra.proofs.Flat.{Less, lowest-kept}
-use Rattle.algebra.proofs.Blocks.{in_blocks, Kept, Fitted, kept-self, kept-value, fitted-lowest}
-use Rattle.algebra.proofs.Blocks.{fitted-completions, extended-kept}
+use Rattle.algebra.proofs.Rows.{length-blank, equal_from_same_row, equal_from_same_answer, equal_past}
+use Rattle.algebra.proofs.Rows.{answer_of}
+use Rattle.algebra.proofs.Flat.{Less, lowest_from_kept}
 use Rattle.algebra.proofs.Completions.{ascending-completions}
+use Rattle.algebra.proofs.Listing.{fitting, or_itself, extended, rows_of, answers_of_from, answers_of}
 use Rattle.algebra.proofs.Fitting.{all-fitting, ascending-fitting}
-use Rattle.algebra.proofs.Orders.{Ahead, ahead-first, ahead-later, before-ahead, before-never}
+use Rattle.algebra.proofs.Orders.{Ahead, ahead_from_lowest, ahead_from_later, before_from_ahead, before-never}
 use Rattle.algebra.proofs.Orders.{precedes-never}
+use Rattle.algebra.proofs.Blocks.{in_blocks, Kept, Fitted, kept-self, some_from_kept, lowest_from_fitted}
+use Rattle.algebra.proofs.Blocks.{all_fitted, all-extended}
 
 -- what blocks make of rows
 
@@ -37,18 +38,20 @@ abbrev Settled : List TriplePattern → List Part → Row → Type 0
 Settled ts bs r = (v : ℕ) → v < variables → mentions v ts ≡ true → (0 < value r v) ⊎ (in_blocks v bs ≡ false)
 
 -- rows that the blocks made of one row agree at the variables that were settled
-settled-same : (ts : List TriplePattern) (bs : List Part) (r : Row) → length r ≡ variables → Settled ts bs r
-    → (s t : Row) → Kept (λ v. in_blocks v bs) r s → Kept (λ v. in_blocks v bs) r t
+equal_from_settled : (ts : List TriplePattern) (bs : List Part) (r : Row) → length r ≡ variables
+    → Settled ts bs r → (s t : Row) → Kept (λ v. in_blocks v bs) r s → Kept (λ v. in_blocks v bs) r t
     → (v : ℕ) → mentions v ts ≡ true → value s v ≡ value t v
-settled-same ts bs r h settled s t k l v m =
+equal_from_settled ts bs r h settled s t k l v m =
     ⊎_elim
     (λ small. k.same v (settled v small m) ∙ sym (l.same v (settled v small m)))
     (equal_past s t variables (k.long ∙ h) (l.long ∙ h) v)
     (cases_lt v variables)
 
-settled-kept : (ts : List TriplePattern) (bs : List Part) (r : Row) → length r ≡ variables → Settled ts bs r
-    → (s : Row) → Kept (λ v. in_blocks v bs) r s → (v : ℕ) → mentions v ts ≡ true → value s v ≡ value r v
-settled-kept ts bs r h settled s k = settled-same ts bs r h settled s r k (kept-self (λ v. in_blocks v bs) r)
+kept_from_settled : (ts : List TriplePattern) (bs : List Part) (r : Row) → length r ≡ variables
+    → Settled ts bs r → (s : Row) → Kept (λ v. in_blocks v bs) r s → (v : ℕ) → mentions v ts ≡ true
+    → value s v ≡ value r v
+kept_from_settled ts bs r h settled s k =
+    equal_from_settled ts bs r h settled s r k (kept-self (λ v. in_blocks v bs) r)
 
 -- no variable that the triples lack is in two of the blocks
 abbrev Apart : List TriplePattern → List Part → Type 0
@@ -70,9 +73,9 @@ apart-rest ts b bs apart v small f =
     (apart v small f)).1
 
 -- a block's variables are settled before it: the triples hold them, or no later block does
-settled-apart : (ts : List TriplePattern) (b : Part) (bs : List Part) (r : Row) → Given ts r
+settled_from_apart : (ts : List TriplePattern) (b : Part) (bs : List Part) (r : Row) → Given ts r
     → Apart ts (b ∷ bs) → Settled b.triples bs r
-settled-apart ts b bs r given apart v small t =
+settled_from_apart ts b bs r given apart v small t =
     ⊎_elim
     (λ y. inl (given v small y))
     (λ f. ⊎_elim (λ n. absurd (both_ways (mentions v b.triples) n t)) inr
@@ -91,8 +94,8 @@ module _ (m : Meaning) (e : ℕ → Entry) (k : ℕ) (ts : List TriplePattern) (
   ascending-settled r h settled =
       ascending-weaker (Ahead (k + 1) (block_parts bs)) (Kept (λ v. in_blocks v bs) r)
       (Ahead k (ts ∷ block_parts bs))
-      (λ s t p q. ahead-later k ts (block_parts bs) s t (settled-same ts bs r h settled s t p q))
-      (extended m e bs r) (extended-kept m e bs r h)
+      (λ s t p q. ahead_from_later k ts (block_parts bs) s t (equal_from_settled ts bs r h settled s t p q))
+      (extended m e bs r) (all-extended m e bs r h)
 
   -- what they make of the rows that fitted
   ascending-fitted : (r : Row) → length r ≡ variables
@@ -104,11 +107,11 @@ module _ (m : Meaning) (e : ℕ → Entry) (k : ℕ) (ts : List TriplePattern) (
       (λ s f v small t. inl (f.given v small t)) in
       ascending-flat_map (Fitted ts r) (Less (open_variables ts r)) (Ahead k (ts ∷ block_parts bs))
       (Kept (λ v. in_blocks v bs)) (extended m e bs)
-      (λ s f. extended-kept m e bs s (f.kept.long ∙ h))
-      (λ s t f g l u w p q. ahead-first k ts (block_parts bs) u w
-      (lowest-kept (λ v. mentions v ts) s t u w
-      (settled-kept ts bs s (f.kept.long ∙ h) (settled s f) u p)
-      (settled-kept ts bs t (g.kept.long ∙ h) (settled t g) w q) (fitted-lowest ts r h s t f g l)))
+      (λ s f. all-extended m e bs s (f.kept.long ∙ h))
+      (λ s t f g l u w p q. ahead_from_lowest k ts (block_parts bs) u w
+      (lowest_from_kept (λ v. mentions v ts) s t u w
+      (kept_from_settled ts bs s (f.kept.long ∙ h) (settled s f) u p)
+      (kept_from_settled ts bs t (g.kept.long ∙ h) (settled t g) w q) (lowest_from_fitted ts r h s t f g l)))
       (λ s f. ascending-settled s (f.kept.long ∙ h) (settled s f) (each s f))
 
   -- what they make of a row, or of the rows that fitted where there are some
@@ -126,23 +129,23 @@ module _ (m : Meaning) (e : ℕ → Entry) (k : ℕ) (ts : List TriplePattern) (
 module _ (m : Meaning) (e : ℕ → Entry) (ts : List TriplePattern) where
   -- what the blocks make of a row ascends, if the row has values for the triples, which hold every variable
   -- that two of the blocks hold
-  extended-ascends : (bs : List Part) (k : ℕ) (r : Row) → length r ≡ variables → Given ts r → Apart ts bs
+  ascending-extended : (bs : List Part) (k : ℕ) (r : Row) → length r ≡ variables → Given ts r → Apart ts bs
       → Ascending (Ahead k (block_parts bs)) (extended m e bs r)
-  extended-ascends [] k r h given apart = (tt, tt)
-  extended-ascends (b ∷ bs) k r h given apart =
-      ascending-or_itself m e k b.triples bs r h (settled-apart ts b bs r given apart)
-      (λ s f. extended-ascends bs (k + 1) s (f.long ∙ h)
-      (λ v small t. kept-value (λ w. mentions w b.triples) r s f v (given v small t))
+  ascending-extended [] k r h given apart = (tt, tt)
+  ascending-extended (b ∷ bs) k r h given apart =
+      ascending-or_itself m e k b.triples bs r h (settled_from_apart ts b bs r given apart)
+      (λ s f. ascending-extended bs (k + 1) s (f.long ∙ h)
+      (λ v small t. some_from_kept (λ w. mentions w b.triples) r s f v (given v small t))
       (apart-rest ts b bs apart))
       (fitting m (passes e b.filter) b.triples r)
-      (all-fitting (Fitted b.triples r) m (passes e b.filter) b.triples r (fitted-completions b.triples r m.top h))
+      (all-fitting (Fitted b.triples r) m (passes e b.filter) b.triples r (all_fitted b.triples r m.top h))
       (ascending-fitting (Less (open_variables b.triples r)) m (passes e b.filter) b.triples r
       (ascending-completions m.top b.triples r h))
 
 -- the rows of an alternative
 
-apart-shares : (g : Group) → shares g ≡ false → Apart g.required g.blocks
-apart-shares g h v small f =
+apart_from_shares : (g : Group) → shares g ≡ false → Apart g.required g.blocks
+apart_from_shares g h v small f =
     false_from_ne_true (in_two (λ b. mentions v b.triples) g.blocks)
     (λ t. both_ways (shares g) h ((shares_decides g).1 (
       v,
@@ -151,21 +154,22 @@ apart-shares g h v small f =
           (not_from_false (mentions v g.required) f),
     )))
 
-pub rows-ascend : (m : Meaning) (e : ℕ → Entry) (g : Group) → shares g ≡ false
+pub ascending-rows_of : (m : Meaning) (e : ℕ → Entry) (g : Group) → shares g ≡ false
     → Ascending (Before g) (rows_of m e g)
-rows-ascend m e g h =
+ascending-rows_of m e g h =
     let long = length-blank in
     let rows = filter (stored m g.required) (completions m.top g.required blank) in
     let each : (s : Row) → Fitted g.required blank s → Ascending (Ahead 1 (block_parts g.blocks))
     (extended m e g.blocks s) =
-    (λ s f. extended-ascends m e g.required g.blocks 1 s (f.kept.long ∙ long) f.given (apart-shares g h)) in
+    (λ s f. ascending-extended m e g.required g.blocks 1 s (f.kept.long ∙ long) f.given
+    (apart_from_shares g h)) in
     let all = flat_map (extended m e g.blocks) rows in
     ascending-filter (Before g) (passes e g.filter) all
-    (ascending-weaker (Ahead 0 (parts_of g)) (λ _. Unit {0}) (Before g) (λ r s _ _. before-ahead g r s) all
-    (all-every (λ _. Unit {0}) (λ _. tt) all)
+    (ascending-weaker (Ahead 0 (parts_of g)) (λ _. Unit {0}) (Before g)
+    (λ r s _ _. before_from_ahead g r s) all (all-every (λ _. Unit {0}) (λ _. tt) all)
     (ascending-fitted m e 0 g.required g.blocks blank long each rows
     (all-filter (Fitted g.required blank) (stored m g.required) (completions m.top g.required blank)
-    (fitted-completions g.required blank m.top long))
+    (all_fitted g.required blank m.top long))
     (ascending-filter (Less (open_variables g.required blank)) (stored m g.required)
     (completions m.top g.required blank) (ascending-completions m.top g.required blank long))))
 
@@ -173,57 +177,58 @@ rows-ascend m e g h =
 pub rows_once : (m : Meaning) (e : ℕ → Entry) (g : Group) → shares g ≡ false → (r : Row)
     → times r (rows_of m e g) ≤ 1
 rows_once m e g h r =
-    count_by-ascending (Before g) same_row equal_from_same_row (before-never g) r (rows_of m e g) (rows-ascend m e g h)
+    count_by-ascending (Before g) same_row equal_from_same_row (before-never g) r (rows_of m e g)
+    (ascending-rows_of m e g h)
 
 -- the answers of a query
 
 module _ (m : Meaning) (e : ℕ → Entry) where
   -- the answers of the alternatives from a on have numbers from a on
-  answers-from : (a : ℕ) (gs : List Group)
+  all-answers_of_from : (a : ℕ) (gs : List Group)
       → AllByRecursion (λ x. a ≤ x.alternative) (answers_of_from m e a gs)
-  answers-from a [] = tt
-  answers-from a (g ∷ gs) =
+  all-answers_of_from a [] = tt
+  all-answers_of_from a (g ∷ gs) =
       all-append (λ x. a ≤ x.alternative) (numbered a (rows_of m e g)) (answers_of_from m e (a + 1) gs)
       (all-map (λ x. a ≤ x.alternative) (answer_of a) (rows_of m e g)
       (all-every (λ _. a ≤ a) (λ _. omega arith) (rows_of m e g)))
       (all-weaker (λ x. a + 1 ≤ x.alternative) (λ x. a ≤ x.alternative) (λ x h. omega (arith, h))
-      (answers_of_from m e (a + 1) gs) (answers-from (a + 1) gs))
+      (answers_of_from m e (a + 1) gs) (all-answers_of_from (a + 1) gs))
 
   module _ (q : List Group) where
-    numbered-ascend : (a : ℕ) (rows : List Row) → Ascending (Before (slice_index_or q a no_group)) rows
+    ascending-numbered : (a : ℕ) (rows : List Row) → Ascending (Before (slice_index_or q a no_group)) rows
         → Ascending (Precedes q) (numbered a rows)
-    numbered-ascend a rows h =
+    ascending-numbered a rows h =
         let of : Row → Answer = (answer_of a) in
         ascending-map (Precedes q) of rows
         (ascending-weaker (Before (slice_index_or q a no_group)) (λ _. Unit {0})
         (λ r s. Precedes q (answer_of a r) (answer_of a s)) (λ r s _ _ b. inr (refl, b)) rows
         (all-every (λ _. Unit {0}) (λ _. tt) rows) h)
 
-    answers-ascend : (a : ℕ) (gs : List Group)
+    ascending-answers_of_from : (a : ℕ) (gs : List Group)
         → ((i : ℕ) → slice_index_or q (a + i) no_group ≡ slice_index_or gs i no_group)
         → list_any shares gs ≡ false → Ascending (Precedes q) (answers_of_from m e a gs)
-    answers-ascend a [] is h = tt
-    answers-ascend a (g ∷ gs) is h =
+    ascending-answers_of_from a [] is h = tt
+    ascending-answers_of_from a (g ∷ gs) is h =
         let parts = or_parts (shares g) (list_any shares gs) h in
         let here : slice_index_or q a no_group ≡ g =
         ap (λ i. slice_index_or q i no_group) (sym (add-zero a)) ∙ is 0 in
         let later = answers_of_from m e (a + 1) gs in
         ascending-append (Precedes q) (numbered a (rows_of m e g)) later
-        (numbered-ascend a (rows_of m e g)
-        (subst (λ k. Ascending (Before k) (rows_of m e g)) (sym here) (rows-ascend m e g parts.0)))
-        (answers-ascend (a + 1) gs
+        (ascending-numbered a (rows_of m e g)
+        (subst (λ k. Ascending (Before k) (rows_of m e g)) (sym here) (ascending-rows_of m e g parts.0)))
+        (ascending-answers_of_from (a + 1) gs
         (λ i. ap (λ j. slice_index_or q j no_group) (omega arith) ∙ is (suc i)) parts.1)
         (all-map (λ x. AllByRecursion (Precedes q x) later) (answer_of a)
         (rows_of m e g)
         (all-every (λ r. AllByRecursion (Precedes q (answer_of a r)) later)
         (λ r. all-weaker (λ x. a + 1 ≤ x.alternative) (Precedes q (answer_of a r))
-        (λ x l. inl (omega (arith, l))) later (answers-from (a + 1) gs))
+        (λ x l. inl (omega (arith, l))) later (all-answers_of_from (a + 1) gs))
         (rows_of m e g)))
 
 pub listing_ascends : (m : Meaning) (e : ℕ → Entry) (q : List Group) → lawful q ≡ true
     → Ascending (Precedes q) (answers_of m e q)
 listing_ascends m e q h =
-    answers-ascend m e q 0 q (λ i. ap (λ j. slice_index_or q j no_group) (zero-add i))
+    ascending-answers_of_from m e q 0 q (λ i. ap (λ j. slice_index_or q j no_group) (zero-add i))
     (not-true (list_any shares q) (and_parts (limited q) (not (list_any shares q)) h).1)
 
 -- no answer is listed twice

@@ -1,8 +1,8 @@
 -- The order in which answers come. Assumes nothing.
 --     Ahead k parts r s     Before, of a list of parts counted from k
-use Rattle.std.proofs.Common.{◌≡◌, ℕ, ◌+◌, ◌<◌, true, ◌⊎◌, List, [], ◌∷◌, length}
-use Rattle.std.proofs.Common.{slice_index_or, Option, Some, None, inl, inr, ⊎_elim, refl, sym, ap, ◌∙◌}
-use Rattle.std.proofs.Common.{subst, subst₂, lt_trans, arith}
+use Rattle.std.proofs.Common.{◌≡◌, ℕ, ◌+◌, ◌<◌, true, ◌⊎◌, List, [], ◌∷◌, length, slice_index_or, Option}
+use Rattle.std.proofs.Common.{Some, None, inl, inr, ⊎_elim, refl, sym, ap, ◌∙◌, subst, subst₂, lt_trans}
+use Rattle.std.proofs.Common.{arith}
 use Rattle.std.proofs.lemmas.Bool.{cases_Bool, cases_eq, cases_lt}
 use Rattle.catalogue.specs.Entries.{Entry}
 use Rattle.query.specs.declared.pattern.TriplePattern.{TriplePattern}
@@ -16,8 +16,8 @@ use Rattle.algebra.specs.Order.{parts_of, part_from, part_of, no_group, Before, 
 use Rattle.algebra.specs.Words.{Answered}
 use Rattle.algebra.specs.Theorems.{OrderIsTotal}
 use Rattle.algebra.proofs.Rows.{row_from_values, answer_from_parts}
-use Rattle.algebra.proofs.Owners.{part_from-yes, part_from-no, part_from_holds, first_holds}
 use Rattle.algebra.proofs.Flat.{Lowest, lowest-cases}
+use Rattle.algebra.proofs.Owners.{part_from-yes, part_from-no, held_from_part, held_from_first}
 
 -- among rows over the parts, of which the first has the number k, r comes before s
 pub record Ahead (k : ℕ) (parts : List (List TriplePattern)) (r s : Row) : Type 0 where
@@ -28,8 +28,8 @@ pub record Ahead (k : ℕ) (parts : List (List TriplePattern)) (r s : Row) : Typ
   pub earlier : (w p : ℕ) → part_from w k parts ≡ Some p → p < part → value r w ≡ value s w
   pub lower : (w : ℕ) → part_from w k parts ≡ Some part → w < variable → value r w ≡ value s w
 
-pub before-ahead : (g : Group) (r s : Row) → Ahead 0 (parts_of g) r s → Before g r s
-before-ahead g r s a = record {
+pub before_from_ahead : (g : Group) (r s : Row) → Ahead 0 (parts_of g) r s → Before g r s
+before_from_ahead g r s a = record {
   part = a.part;
   variable = a.variable;
   own = a.own;
@@ -40,14 +40,15 @@ before-ahead g r s a = record {
 
 module _ (k : ℕ) (ts : List TriplePattern) (parts : List (List TriplePattern)) (r s : Row) where
   -- the rows differ first within the first part
-  pub ahead-first : Lowest (λ v. mentions v ts) r s → Ahead k (ts ∷ parts) r s
-  ahead-first l = record {
+  pub ahead_from_lowest : Lowest (λ v. mentions v ts) r s → Ahead k (ts ∷ parts) r s
+  ahead_from_lowest l = record {
     part = k;
     variable = l.variable;
     own = part_from-yes l.variable k ts parts l.own;
     smaller = l.smaller;
-    earlier = λ w p e h. let (i, at, _, _) = part_from_holds w k (ts ∷ parts) p e in absurd (omega (arith, h, at));
-    lower = λ w e h. l.lower w (first_holds w k ts parts e) h;
+    earlier = λ w p e h. let (i, at, _, _) = held_from_part w k (ts ∷ parts) p e in
+        absurd (omega (arith, h, at));
+    lower = λ w e h. l.lower w (held_from_first w k ts parts e) h;
   }
 
   -- the rows do not differ within the first part
@@ -57,8 +58,8 @@ module _ (k : ℕ) (ts : List TriplePattern) (parts : List (List TriplePattern))
     same-unless w is e later =
         ⊎_elim (same w) (λ f. later (sym (part_from-no w k ts parts f) ∙ e)) (cases_Bool (mentions w ts))
 
-    pub ahead-later : Ahead (k + 1) parts r s → Ahead k (ts ∷ parts) r s
-    ahead-later a = record {
+    pub ahead_from_later : Ahead (k + 1) parts r s → Ahead k (ts ∷ parts) r s
+    ahead_from_later a = record {
       part = a.part;
       variable = a.variable;
       own = ⊎_elim
@@ -76,8 +77,8 @@ module _ (k : ℕ) (ts : List TriplePattern) (parts : List (List TriplePattern))
 abbrev Sooner : ℕ → ℕ → ℕ → ℕ → Type 0
 Sooner p w k v = (p < k) ⊎ ((p ≡ k) × (w < v))
 
-sooner-then : (p w k v l u : ℕ) → Sooner p w k v → Sooner k v l u → Sooner p w l u
-sooner-then p w k v l u a b =
+sooner_from_two : (p w k v l u : ℕ) → Sooner p w k v → Sooner k v l u → Sooner p w l u
+sooner_from_two p w k v l u a b =
     ⊎_elim
     (λ i. ⊎_elim (λ j. inl (omega (arith, i, j))) (λ j. inl (omega (arith, i, j.0))) b)
     (λ i. ⊎_elim
@@ -107,9 +108,9 @@ module _ (g : Group) where
   before-never r b = omega (arith, b.smaller)
 
   -- the rows agree at each variable that comes before the one at which they differ first
-  before-same : (r s : Row) (b : Before g r s) (w p : ℕ) → part_of g w ≡ Some p
+  equal_from_before : (r s : Row) (b : Before g r s) (w p : ℕ) → part_of g w ≡ Some p
       → Sooner p w b.part b.variable → value r w ≡ value s w
-  before-same r s b w p own =
+  equal_from_before r s b w p own =
       ⊎_elim (b.earlier w p own) (λ h. b.lower w (own ∙ ap (λ k. Some k) h.0) h.1)
 
   module _ (r s t : Row) (b : Before g r s) (c : Before g s t) where
@@ -128,18 +129,18 @@ module _ (g : Group) where
       where
         agree : (w p : ℕ) → part_of g w ≡ Some p
             → Sooner p w b.part b.variable × Sooner p w c.part c.variable → value r w ≡ value t w
-        agree w p o l = before-same r s b w p o l.0 ∙ before-same s t c w p o l.1
+        agree w p o l = equal_from_before r s b w p o l.0 ∙ equal_from_before s t c w p o l.1
 
-    before-then : Before g r t
-    before-then =
+    before_from_two : Before g r t
+    before_from_two =
         ⊎_elim
-        (λ h. let same = before-same s t c b.variable b.part b.own h in
+        (λ h. let same = equal_from_before s t c b.variable b.part b.own h in
         before_from_both b.part b.variable b.own (omega (arith, b.smaller, same))
-        (λ w p l. (l, sooner-then p w b.part b.variable c.part c.variable l h)))
+        (λ w p l. (l, sooner_from_two p w b.part b.variable c.part c.variable l h)))
         (⊎_elim
-        (λ h. let same = before-same r s b c.variable c.part c.own h in
+        (λ h. let same = equal_from_before r s b c.variable c.part c.own h in
         before_from_both c.part c.variable c.own (omega (arith, c.smaller, same))
-        (λ w p l. (sooner-then p w c.part c.variable b.part b.variable l h, l)))
+        (λ w p l. (sooner_from_two p w c.part c.variable b.part b.variable l h, l)))
         (λ h. before_from_both b.part b.variable b.own
         (lt_trans b.smaller (subst (λ v. value s v < value t v) (sym h.1) c.smaller))
         (λ w p l. (l, subst₂ (λ k v. Sooner p w k v) h.0 h.1 l))))
@@ -157,12 +158,12 @@ module _ (r s : Row) (one : length r ≡ variables) (two : length s ≡ variable
       (λ same. ⊎_elim
       (λ rest. inl (λ v p e. same-unless k ts parts r s same v (Some p) e (rest v p)))
       (⊎_elim
-      (λ a. inr (inl (ahead-later k ts parts r s same a)))
-      (λ a. inr (inr (ahead-later k ts parts s r (λ v t. sym (same v t)) a))))
+      (λ a. inr (inl (ahead_from_later k ts parts r s same a)))
+      (λ a. inr (inr (ahead_from_later k ts parts s r (λ v t. sym (same v t)) a))))
       (ahead-cases (k + 1) parts))
       (⊎_elim
-      (λ l. inr (inl (ahead-first k ts parts r s l)))
-      (λ l. inr (inr (ahead-first k ts parts s r l))))
+      (λ l. inr (inl (ahead_from_lowest k ts parts r s l)))
+      (λ l. inr (inr (ahead_from_lowest k ts parts s r l))))
       (lowest-cases (λ v. mentions v ts) r s one two)
 
   -- rows that have no values elsewhere
@@ -174,7 +175,7 @@ module _ (r s : Row) (one : length r ≡ variables) (two : length s ≡ variable
       (λ v o. elim o as (λ o. part_of g v ≡ o → value r v ≡ value s v)
       [ None ↦ λ e. h v e ∙ sym (k v e) | Some p ↦ λ e. same v p e ]) in
       inl (row_from_values r s (one ∙ sym two) (λ v. by v (part_of g v) refl)))
-      (⊎_elim (λ a. inr (inl (before-ahead g r s a))) (λ a. inr (inr (before-ahead g s r a))))
+      (⊎_elim (λ a. inr (inl (before_from_ahead g r s a))) (λ a. inr (inr (before_from_ahead g s r a))))
       (ahead-cases 0 (parts_of g))
 
 -- Precedes
@@ -187,14 +188,14 @@ module _ (q : List Group) where
   pub precedes-never : (a : Answer) → Precedes q a a → ⊥
   precedes-never a = ⊎_elim (λ l. omega (arith, l)) (λ b. before-never (group a.alternative) a.row b.1)
 
-  precedes-then : (a b c : Answer) → Precedes q a b → Precedes q b c → Precedes q a c
-  precedes-then a b c h k =
+  precedes_from_two : (a b c : Answer) → Precedes q a b → Precedes q b c → Precedes q a c
+  precedes_from_two a b c h k =
       ⊎_elim
       (λ i. ⊎_elim (λ j. inl (omega (arith, i, j))) (λ j. inl (omega (arith, i, j.0))) k)
       (λ i. ⊎_elim (λ j. inl (omega (arith, i.0, j)))
       (λ j. inr (
         i.0 ∙ j.0,
-        before-then (group a.alternative) a.row b.row c.row i.1
+        before_from_two (group a.alternative) a.row b.row c.row i.1
             (subst (λ n. Before (group n) b.row c.row) (sym i.0) j.1),
       )) k)
       h
@@ -217,4 +218,4 @@ module _ (q : List Group) where
         (cases_lt a.alternative b.alternative)
 
     pub order_is_total : OrderIsTotal m e q
-    order_is_total = record { never = precedes-never; onward = precedes-then; either = precedes-cases }
+    order_is_total = record { never = precedes-never; onward = precedes_from_two; either = precedes-cases }

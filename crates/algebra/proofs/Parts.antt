@@ -3,8 +3,8 @@
 --     Protects m p admits     no value is left out that some completion which passes p has in the store
 --     filter-walk_part        what passes p is answered as it is listed
 --     answers-walk_part       under a lawful admission all is answered as it is listed
-use Rattle.std.proofs.Common.{◌≡◌, ℕ, Bool, true, false, cond, ◌&&◌, List, [], ◌∷◌, length, refl, sym}
-use Rattle.std.proofs.Common.{ap, ◌∙◌, subst, ⊎_elim}
+use Rattle.std.proofs.Common.{◌≡◌, ℕ, Bool, true, false, cond, ◌&&◌, List, [], ◌∷◌, length, refl, sym, ap}
+use Rattle.std.proofs.Common.{◌∙◌, subst, ⊎_elim}
 use Rattle.std.proofs.lemmas.Bool.{cases_Bool, cond-true, cond-false, and_parts, false_from_ne_true}
 use Rattle.std.proofs.lemmas.Bool.{both_ways}
 use Rattle.std.specs.List.{filter}
@@ -16,8 +16,8 @@ use Rattle.algebra.specs.Patterns.{with_value, stored, open_variables, terms, as
 use Rattle.algebra.specs.Admissions.{Admission, Completes, Lawful}
 use Rattle.algebra.specs.Walk.{Mark, try, answers, admitted, walk_through, walk_part}
 use Rattle.algebra.specs.Theorems.{WalkTakesTheLowest}
-use Rattle.algebra.proofs.Lists.{all-weaker, all-filter, flat_map-same, flat_map-filter}
-use Rattle.algebra.proofs.Lists.{filter-flat_map, filter-filter, filter-none, filter-true}
+use Rattle.algebra.proofs.Lists.{all-weaker, all-filter, flat_map-same, flat_map-filter, filter-flat_map}
+use Rattle.algebra.proofs.Lists.{filter-filter, filter-none, filter-true}
 use Rattle.algebra.proofs.Rows.{length-with_value}
 use Rattle.algebra.proofs.Assignments.{all-terms}
 use Rattle.algebra.proofs.Completions.{open_variables-rest, all-completions}
@@ -31,8 +31,8 @@ Protects m p admits = (ts : List TriplePattern) (r : Row) (v x : ℕ) (s : Row) 
     → Completes m.top ts (with_value r v x) s → stored m ts s ≡ true → p s ≡ true → admits ts r v x ≡ true
 
 -- the law is this with a test that is always true: a lawful admission protects every completion
-pub lawful_protects : (m : Meaning) (admits : Admission) → Lawful m admits → Protects m (λ _. true) admits
-lawful_protects m admits law ts r v x s term completes has _ = law.keeps ts r v x s term completes has
+protects_from_lawful : (m : Meaning) (admits : Admission) → Lawful m admits → Protects m (λ _. true) admits
+protects_from_lawful m admits law ts r v x s term completes has _ = law.keeps ts r v x s term completes has
 
 module _ (m : Meaning) (p : Row → Bool) (admits : Admission) (law : Protects m p admits) (test : Row → Bool)
     (ts : List TriplePattern) where
@@ -41,9 +41,9 @@ module _ (m : Meaning) (p : Row → Bool) (admits : Admission) (law : Protects m
   fits s = stored m ts s && test s
 
   -- a value that is not admitted has no completion that fits and passes p
-  nothing_lost : (r : Row) (v x : ℕ) → length r ≡ variables → Term m.top x → admits ts r v x ≡ false
+  filter-unadmitted : (r : Row) (v x : ℕ) → length r ≡ variables → Term m.top x → admits ts r v x ≡ false
       → filter p (filter fits (completions m.top ts (with_value r v x))) ≡ []
-  nothing_lost r v x long term left =
+  filter-unadmitted r v x long term left =
       let rows = completions m.top ts (with_value r v x) in
       let complete = all-completions m.top ts (with_value r v x) (length-with_value r v x ∙ long) in
       filter-filter p fits rows
@@ -71,7 +71,7 @@ module _ (m : Meaning) (p : Row → Bool) (admits : Admission) (law : Protects m
       ∙ filter-walk_through vs (with_value r v x) (length-with_value r v x ∙ long) rest)
       (λ n. cond-false (admits ts r v x) (filter p (answers (after x))) [] n
       ∙ sym (subst (λ ws. filter p (filter fits (assignments m.top ws (with_value r v x))) ≡ []) rest
-      (nothing_lost r v x long term n)))
+      (filter-unadmitted r v x long term n)))
       (cases_Bool (admits ts r v x)) in
       ap (filter p) (answers-flat_map (λ x. try v x ∷ after x) (admitted m admits ts r v))
       ∙ filter-flat_map p (λ x. answers (after x)) (admitted m admits ts r v)
@@ -112,5 +112,5 @@ pub answers-walk_part : (m : Meaning) (admits : Admission) → Lawful m admits �
     → answers (walk_part m admits test ts r) ≡ fitting m test ts r
 answers-walk_part m admits law test ts r long =
     sym (filter-true (answers (walk_part m admits test ts r)))
-    ∙ filter-walk_part m (λ _. true) admits (lawful_protects m admits law) test ts r long
+    ∙ filter-walk_part m (λ _. true) admits (protects_from_lawful m admits law) test ts r long
     ∙ filter-true (fitting m test ts r)

@@ -56,26 +56,26 @@ stored-same m (t ∷ ts) r s same =
     (triple_under-same t r s (λ v h. same v (or_left (in_triple v t) (mentions v ts) h)))
     (stored-same m ts r s (λ v h. same v (or_right (in_triple v t) (mentions v ts) h)))
 
-number_at-term : (top : ℕ) (p : Place) (r : Row) (v : ℕ) → is_variable v p ≡ true
+term_from_number_at : (top : ℕ) (p : Place) (r : Row) (v : ℕ) → is_variable v p ≡ true
     → terms.Term top (number_at r p) → terms.Term top (value r v)
-number_at-term top (Variable w) r v here t =
+term_from_number_at top (Variable w) r v here t =
     subst (λ x. terms.Term top (value r x)) (sym (eqb-true v w here)) t
-number_at-term top (Term x) r v here t = cc
+term_from_number_at top (Term x) r v here t = cc
 
 -- a variable of patterns that are in a store of terms has a term
-pub stored-terms : (m : Meaning) → terms.Sound m → (ts : List TriplePattern) (r : Row) (v : ℕ)
+pub term_from_stored : (m : Meaning) → terms.Sound m → (ts : List TriplePattern) (r : Row) (v : ℕ)
     → stored m ts r ≡ true → mentions v ts ≡ true → terms.Term m.top (value r v)
-stored-terms m sound [] r v held there = cc
-stored-terms m sound (t ∷ ts) r v held there =
+term_from_stored m sound [] r v held there = cc
+term_from_stored m sound (t ∷ ts) r v held there =
     let (first, rest) = and_parts (m.has (triple_under r t)) (stored m ts r) held in
     let three = sound.terms (triple_under r t) first in
     ⊎_elim
-    (λ here. ⊎_elim (λ s. number_at-term m.top t.subject r v s three.subject)
-    (λ others. ⊎_elim (λ p. number_at-term m.top t.property r v p three.property)
-    (λ o. number_at-term m.top t.object r v o three.object)
+    (λ here. ⊎_elim (λ s. term_from_number_at m.top t.subject r v s three.subject)
+    (λ others. ⊎_elim (λ p. term_from_number_at m.top t.property r v p three.property)
+    (λ o. term_from_number_at m.top t.object r v o three.object)
     (or_cases (is_variable v t.property) (is_variable v t.object) others))
     (or_cases (is_variable v t.subject) (is_variable v t.property || is_variable v t.object) here))
-    (stored-terms m sound ts r v rest)
+    (term_from_stored m sound ts r v rest)
     (or_cases (in_triple v t) (mentions v ts) there)
 
 -- open_variables

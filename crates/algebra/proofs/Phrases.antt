@@ -14,41 +14,41 @@ use Rattle.algebra.proofs.Rows.{value-map, value-past, equal_past, row_from_valu
 
 -- reached
 
-pub reached_part : (p k : ℕ) (o : Option ℕ) → o ≡ Some k → k ≤ p → reached p o ≡ true
-reached_part p k o e low = ap (reached p) e ∙ le-leb k p low
+pub reached-low : (p k : ℕ) (o : Option ℕ) → o ≡ Some k → k ≤ p → reached p o ≡ true
+reached-low p k o e low = ap (reached p) e ∙ le-leb k p low
 
-pub reached_more : (p : ℕ) (o : Option ℕ) → reached p o ≡ true → reached (p + 1) o ≡ true
-reached_more p None h = h
-reached_more p (Some k) h = let low = leb-true k p h in le-leb k (p + 1) (omega arith)
+pub reached-more : (p : ℕ) (o : Option ℕ) → reached p o ≡ true → reached (p + 1) o ≡ true
+reached-more p None h = h
+reached-more p (Some k) h = let low = leb-true k p h in le-leb k (p + 1) (omega arith)
 
-pub reached_above : (p k : ℕ) (o : Option ℕ) → o ≡ Some k → p < k → reached p o ≡ false
-reached_above p k o e high = ap (reached p) e ∙ lt-leb k p high
+pub reached-high : (p k : ℕ) (o : Option ℕ) → o ≡ Some k → p < k → reached p o ≡ false
+reached-high p k o e high = ap (reached p) e ∙ lt-leb k p high
 
 -- what is reached by one part more is reached before, or belongs to that part
-pub reached_next : (p : ℕ) (o : Option ℕ) → reached (p + 1) o ≡ true
+pub reached_or_own : (p : ℕ) (o : Option ℕ) → reached (p + 1) o ≡ true
     → (reached p o ≡ true) ⊎ (o ≡ Some (p + 1))
-reached_next p None h = inl h
-reached_next p (Some k) h =
+reached_or_own p None h = inl h
+reached_or_own p (Some k) h =
     let low = leb-true k (p + 1) h in
     ⊎_elim (λ l. inl (le-leb k p (omega arith))) (λ l. inr (ap Some (omega arith))) (cases_lt k (p + 1))
 
 -- and what is not reached before, and does not belong to that part, is not
-pub reached_next-no : (p : ℕ) (o : Option ℕ) → reached p o ≡ false → (o ≡ Some (p + 1) → ⊥)
+pub reached-unowned : (p : ℕ) (o : Option ℕ) → reached p o ≡ false → (o ≡ Some (p + 1) → ⊥)
     → reached (p + 1) o ≡ false
-reached_next-no p o f other =
+reached-unowned p o f other =
     ⊎_elim (λ t. ⊎_elim (λ before. absurd (both_ways (reached p o) f before)) (λ own. absurd (other own))
-    (reached_next p o t))
+    (reached_or_own p o t))
     (λ n. n) (cases_Bool (reached (p + 1) o))
 
-pub reached_less-no : (p : ℕ) (o : Option ℕ) → reached (p + 1) o ≡ false → reached p o ≡ false
-reached_less-no p o f =
-    ⊎_elim (λ t. absurd (both_ways (reached (p + 1) o) f (reached_more p o t))) (λ n. n)
+pub reached-fewer : (p : ℕ) (o : Option ℕ) → reached (p + 1) o ≡ false → reached p o ≡ false
+reached-fewer p o f =
+    ⊎_elim (λ t. absurd (both_ways (reached (p + 1) o) f (reached-more p o t))) (λ n. n)
     (cases_Bool (reached p o))
 
-pub reached_first-no : (o : Option ℕ) → (o ≡ Some 0 → ⊥) → reached 0 o ≡ false
-reached_first-no None other = refl
-reached_first-no (Some zero) other = absurd (other refl)
-reached_first-no (Some (suc k)) other = reached_above 0 (suc k) (Some (suc k)) refl (omega arith)
+pub reached-first : (o : Option ℕ) → (o ≡ Some 0 → ⊥) → reached 0 o ≡ false
+reached-first None other = refl
+reached-first (Some zero) other = absurd (other refl)
+reached-first (Some (suc k)) other = reached-high 0 (suc k) (Some (suc k)) refl (omega arith)
 
 -- upto
 
@@ -56,35 +56,35 @@ module _ (g : Group) (p : ℕ) (r : Row) where
   pub length-upto : length (upto g p r) ≡ variables
   length-upto = length-map-range_with_len (λ v. cond (reached p (part_of g v)) (value r v) none) 0 variables
 
-  upto_at : (v : ℕ) → v < variables
+  value-upto : (v : ℕ) → v < variables
       → value (upto g p r) v ≡ cond (reached p (part_of g v)) (value r v) none
-  upto_at v = value-map (λ w. cond (reached p (part_of g w)) (value r w) none) variables v
+  value-upto v = value-map (λ w. cond (reached p (part_of g w)) (value r w) none) variables v
 
-  pub upto_past : (v : ℕ) → variables ≤ v → value (upto g p r) v ≡ none
-  upto_past v high = value-past (upto g p r) v (omega (arith, length-upto, high))
+  pub value-upto_past : (v : ℕ) → variables ≤ v → value (upto g p r) v ≡ none
+  value-upto_past v high = value-past (upto g p r) v (omega (arith, length-upto, high))
 
-  pub upto_kept : (v : ℕ) → length r ≡ variables → reached p (part_of g v) ≡ true
+  pub value-upto_reached : (v : ℕ) → length r ≡ variables → reached p (part_of g v) ≡ true
       → value (upto g p r) v ≡ value r v
-  upto_kept v long h =
-      ⊎_elim (λ low. upto_at v low ∙ cond-true (reached p (part_of g v)) (value r v) none h)
+  value-upto_reached v long h =
+      ⊎_elim (λ low. value-upto v low ∙ cond-true (reached p (part_of g v)) (value r v) none h)
       (equal_past (upto g p r) r variables length-upto long v)
       (cases_lt v variables)
 
   -- the value of a variable of the part k
-  pub upto_part : (v k : ℕ) → length r ≡ variables → part_of g v ≡ Some k → k ≤ p
+  pub value-upto_part : (v k : ℕ) → length r ≡ variables → part_of g v ≡ Some k → k ≤ p
       → value (upto g p r) v ≡ value r v
-  upto_part v k long own low = upto_kept v long (reached_part p k (part_of g v) own low)
+  value-upto_part v k long own low = value-upto_reached v long (reached-low p k (part_of g v) own low)
 
-  pub upto_dropped : (v : ℕ) → reached p (part_of g v) ≡ false → value (upto g p r) v ≡ none
-  upto_dropped v h =
-      ⊎_elim (λ low. upto_at v low ∙ cond-false (reached p (part_of g v)) (value r v) none h) (upto_past v)
-      (cases_lt v variables)
+  pub value-upto_later : (v : ℕ) → reached p (part_of g v) ≡ false → value (upto g p r) v ≡ none
+  value-upto_later v h =
+      ⊎_elim (λ low. value-upto v low ∙ cond-false (reached p (part_of g v)) (value r v) none h)
+      (value-upto_past v) (cases_lt v variables)
 
   -- it is the row of that length that has r's values where they are reached, and none elsewhere
-  pub upto_is : (s : Row) → length r ≡ variables → length s ≡ variables
+  pub upto_from_values : (s : Row) → length r ≡ variables → length s ≡ variables
       → ((v : ℕ) → reached p (part_of g v) ≡ true → value r v ≡ value s v)
       → ((v : ℕ) → reached p (part_of g v) ≡ false → value s v ≡ none) → upto g p r ≡ s
-  upto_is s long too same later =
+  upto_from_values s long too same later =
       row_from_values (upto g p r) s (length-upto ∙ sym too)
-      (λ v. ⊎_elim (λ t. upto_kept v long t ∙ same v t) (λ f. upto_dropped v f ∙ sym (later v f))
+      (λ v. ⊎_elim (λ t. value-upto_reached v long t ∙ same v t) (λ f. value-upto_later v f ∙ sym (later v f))
       (cases_Bool (reached p (part_of g v))))

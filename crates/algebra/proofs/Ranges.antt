@@ -1,6 +1,6 @@
 -- Laws of ranges, the n numbers from a on. Assumes nothing.
-use Rattle.std.proofs.Common.{◌≡◌, ℕ, ◌+◌, ◌<◌, ◌≤◌, ◌≢◌, List, [], ◌++◌, append-nil, ap, ◌∙◌}
-use Rattle.std.proofs.Common.{⊎_elim, arith, zero, suc, inl, inr}
+use Rattle.std.proofs.Common.{◌≡◌, ℕ, ◌+◌, ◌<◌, ◌≤◌, ◌≢◌, List, [], ◌++◌, append-nil, ap, ◌∙◌, ⊎_elim, arith}
+use Rattle.std.proofs.Common.{zero, suc, inl, inr}
 use Rattle.std.proofs.lemmas.Bool.{cases_eq}
 use Rattle.std.specs.List.{flat_map, range_with_len, AllByRecursion}
 use Rattle.algebra.proofs.Lists.{all-weaker, flat_map-none}

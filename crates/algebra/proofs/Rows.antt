@@ -1,6 +1,6 @@
 -- Laws of rows: the value of a variable, a row with a value, and when two rows are the same. Assumes nothing.
-use Rattle.std.proofs.Common.{◌≡◌, ℕ, ◌<◌, ◌≤◌, true, false, not, List, length}
-use Rattle.std.proofs.Common.{refl, sym, ap, ◌∙◌, subst, ⊎_elim, arith, Decides, eqb, ap₂, map}
+use Rattle.std.proofs.Common.{◌≡◌, ℕ, ◌<◌, ◌≤◌, true, false, not, List, length, refl, sym, ap, ◌∙◌, subst}
+use Rattle.std.proofs.Common.{⊎_elim, arith, Decides, eqb, ap₂, map}
 use Rattle.std.proofs.lemmas.Bool.{cases_eq, cases_lt, eqb-true, false≢true, ne_eqb, eq-eqb, and_parts}
 use Rattle.std.proofs.lemmas.List.{get_or-set_same, get_or-set_other, length-set, ext_get_or, get_or_past}
 use Rattle.std.proofs.lemmas.List.{length-replicate, get_or-replicate}
@@ -34,7 +34,7 @@ equal_past r s n h k v l = value-past r v (omega (arith, h, l)) ∙ sym (value-p
 -- a variable that has a value is inside the row
 pub inside_from_value : (r : Row) (v : ℕ) → 0 < value r v → v < length r
 inside_from_value r v h =
-    ⊎_elim (λ l. l) (λ g. let past = value-past r v g in absurd (omega (arith, h, past))) (cases_lt v (length r))
+    ⊎_elim (λ l. l) (λ g. absurd (omega (arith, h, value-past r v g))) (cases_lt v (length r))
 
 pub value-blank : (v : ℕ) → value blank v ≡ 0
 value-blank v =
@@ -74,14 +74,14 @@ has_value-some r v h = ap not (ne_eqb (value r v) 0 (λ e. omega (arith, h, e)))
 
 -- same_row, same_answer
 
-same_row-decides : (r s : Row) → Decides (same_row r s) (r ≡ s)
-same_row-decides r s = bytes_eq-Decides r s
+same_row_decides : (r s : Row) → Decides (same_row r s) (r ≡ s)
+same_row_decides r s = bytes_eq-Decides r s
 
 pub equal_from_same_row : (r s : Row) → same_row r s ≡ true → r ≡ s
-equal_from_same_row r s = (same_row-decides r s).0
+equal_from_same_row r s = (same_row_decides r s).0
 
 pub same_row-refl : (r : Row) → same_row r r ≡ true
-same_row-refl r = (same_row-decides r r).1 refl
+same_row-refl r = (same_row_decides r r).1 refl
 
 -- the row as an answer of alternative a
 abbrev pub answer_of : ℕ → Row → Answer

@@ -12,17 +12,17 @@ use Rattle.filter.specs.Rows.{Row}
 use Rattle.algebra.specs.Answers.{solutions, same_row, times}
 use Rattle.algebra.specs.Order.{no_group}
 use Rattle.algebra.specs.Theorems.{SolutionsInWords}
-use Rattle.algebra.proofs.Counts.{total-solutions}
-use Rattle.algebra.proofs.FromWords.{listed_from_words}
-use Rattle.algebra.proofs.Listing.{rows_of}
-use Rattle.algebra.proofs.Ordered.{rows_once}
 use Rattle.algebra.proofs.Lists.{count_by-total}
+use Rattle.algebra.proofs.Listing.{rows_of}
+use Rattle.algebra.proofs.Counts.{total-solutions}
+use Rattle.algebra.proofs.Ordered.{rows_once}
 use Rattle.algebra.proofs.ToWords.{words_from_listed}
+use Rattle.algebra.proofs.FromWords.{listed_from_words}
 
 -- no alternative of a lawful query has two blocks that share a variable which its required triples lack
-lawful-apart : (q : List Group) (a : ℕ) → lawful q ≡ true → a < length q
+shares-lawful : (q : List Group) (a : ℕ) → lawful q ≡ true → a < length q
     → shares (get_or q a no_group) ≡ false
-lawful-apart q a h low =
+shares-lawful q a h low =
     let apart = not-true (list_any shares q) ((and_parts (limited q) (not (list_any shares q)) h).1) in
     false_from_ne_true (shares (get_or q a no_group))
     (λ t. both_ways (list_any shares q) apart (list_any_at shares q a no_group low t))
@@ -38,7 +38,7 @@ pub solutions_in_words : (m : Meaning) (e : ℕ → Entry) (q : List Group) → 
     → SolutionsInWords m e q
 solutions_in_words m e q sound h a r low =
     let g = get_or q a no_group in
-    let apart = lawful-apart q a h low in
+    let apart = shares-lawful q a h low in
     let same = times-solutions m e g r in (
       (λ answered. let some = listed_from_words m e g r answered sound apart in
           let most = rows_once m e g apart r in omega arith),

@@ -1,7 +1,7 @@
 -- A row that is listed is an answer in words. Assumes nothing.
 --     Onward m e g k s r    r is what the words say of it from block k on, and s is what it was before that
-use Rattle.std.proofs.Common.{Some, ◌≡◌, ℕ, zero, suc, ◌+◌, ◌<◌, ◌≤◌, true, false, length, drop, None, refl, sym}
-use Rattle.std.proofs.Common.{ap, ◌∙◌, subst, inl, inr, ⊎_elim, arith}
+use Rattle.std.proofs.Common.{Some, ◌≡◌, ℕ, zero, suc, ◌+◌, ◌<◌, ◌≤◌, true, false, length, drop, None, refl}
+use Rattle.std.proofs.Common.{sym, ap, ◌∙◌, subst, inl, inr, ⊎_elim, arith}
 use Rattle.std.proofs.Math.ListN.{drop_of_length-le}
 use Rattle.std.proofs.lemmas.Bool.{both_ways, cases_eq}
 use Rattle.std.specs.List.{flat_map}
@@ -17,18 +17,19 @@ use Rattle.algebra.specs.Algebra.{bgp}
 use Rattle.algebra.specs.Answers.{times}
 use Rattle.algebra.specs.Order.{part_of}
 use Rattle.algebra.specs.Words.{reached, upto, Fits, Extended, Left, Answered, no_part}
-use Rattle.algebra.proofs.Listing.{or_itself, extended, rows_of}
-use Rattle.algebra.proofs.Rows.{length-blank, value-blank, member_from_times}
-use Rattle.algebra.proofs.Members.{Member, member_from_filter, member_from_flat_map}
-use Rattle.algebra.proofs.Owners.{block_at, block_holds, required_owns, required_holds}
-use Rattle.algebra.proofs.Patterns.{stored-same, stored-terms}
-use Rattle.algebra.proofs.Phrases.{reached_part, upto_part, upto_is}
 use Rattle.algebra.specs.Admissions.{Completes}
-use Rattle.algebra.proofs.Completions.{kept_from_completes}
 use Rattle.algebra.proofs.Lists.{drop-next}
-use Rattle.algebra.proofs.Fitting.{completes_from_stored, fits_from_member, member-fitting, member_from_or_itself}
-use Rattle.algebra.proofs.Work.{Worked, Asked, made_by, term_some, own_free, worked_next, upto_before}
-use Rattle.algebra.proofs.Work.{others_from_completes, completes_from_own}
+use Rattle.algebra.proofs.Members.{Member, member_from_filter, member_from_flat_map}
+use Rattle.algebra.proofs.Rows.{length-blank, value-blank, member_from_times}
+use Rattle.algebra.proofs.Patterns.{stored-same, term_from_stored}
+use Rattle.algebra.proofs.Completions.{kept_from_completes}
+use Rattle.algebra.proofs.Listing.{or_itself, extended, rows_of}
+use Rattle.algebra.proofs.Fitting.{completes_from_stored, fits_from_member, member-fitting}
+use Rattle.algebra.proofs.Fitting.{member_from_or_itself}
+use Rattle.algebra.proofs.Owners.{block_at, held_from_block, part_of-required, held_from_required}
+use Rattle.algebra.proofs.Phrases.{reached-low, value-upto_part, upto_from_values}
+use Rattle.algebra.proofs.Work.{Worked, Asked, made_by, some_from_term, value-own, worked-next}
+use Rattle.algebra.proofs.Work.{upto_from_next, others_from_completes, completes_from_own}
 
 -- r has s as its values up to the first k blocks, and each later block asks of it what it has
 pub record Onward (m : Meaning) (e : ℕ → Entry) (g : Group) (k : ℕ) (s r : Row) : Type 0 where
@@ -43,7 +44,7 @@ onward_none m e g k s r all w same =
     let long : length r ≡ variables = ap length same ∙ w.long in
     record {
       long = long;
-      before = upto_is g k r s long w.long (λ v _. ap (λ u. value u v) same) w.later;
+      before = upto_from_values g k r s long w.long (λ v _. ap (λ u. value u v) same) w.later;
       blocks = λ i low high. absurd (omega arith);
       others = λ v nowhere. ap (λ u. value u v) same ∙ w.later v (ap (reached k) nowhere);
     }
@@ -55,7 +56,7 @@ onward_more : (m : Meaning) (e : ℕ → Entry) (g : Group) (k : ℕ) (s t r : R
 onward_more m e g k s t r w kept here on =
     record {
       long = on.long;
-      before = upto_before g k s w r t on.long kept on.before;
+      before = upto_from_next g k s w r t on.long kept on.before;
       blocks = λ i above high. ⊎_elim
           (λ same. subst (Asked m e g r) same here)
           (λ other. on.blocks i (omega arith) high)
@@ -71,8 +72,9 @@ module _ (m : Meaning) (e : ℕ → Entry) (g : Group) (sound : Sound m) (apart 
   onward_fit k s t r low w f fits on =
       let extended : Extended m e g (k + 1) (block_at g k) r = record {
         values = λ v own. subst (Term m.top) (sym (ap (λ u. value u v) on.before)
-            ∙ upto_part g (k + 1) r v (k + 1) on.long own (omega arith))
-            (stored-terms m sound (block_at g k).triples t v fits.triples ((block_holds g k v own).1));
+            ∙ value-upto_part g (k + 1) r v (k + 1) on.long own (omega arith))
+            (term_from_stored m sound (block_at g k).triples t v fits.triples
+            ((held_from_block g k v own).1));
         fits = subst (Fits m e (block_at g k)) (sym on.before) fits;
       } in
       onward_more m e g k s t r w (others_from_completes g k s w apart low m.top t f) (inl extended) on
@@ -84,8 +86,8 @@ module _ (m : Meaning) (e : ℕ → Entry) (g : Group) (sound : Sound m) (apart 
   onward_left k s r low w never on =
       let left : Left m e g (k + 1) (block_at g k) r = record {
         valueless = λ v own.
-            sym (upto_part g (k + 1) r v (k + 1) on.long own (omega arith))
-            ∙ ap (λ u. value u v) on.before ∙ own_free g k s w v own;
+            sym (value-upto_part g (k + 1) r v (k + 1) on.long own (omega arith))
+            ∙ ap (λ u. value u v) on.before ∙ value-own g k s w v own;
         nothing = λ t gives fits. never t
             (completes_from_own g k s w apart low m.top t gives.long gives.own
             (λ v other. gives.others v other ∙ ap (λ u. value u v) on.before)) fits;
@@ -109,10 +111,10 @@ module _ (m : Meaning) (e : ℕ → Entry) (g : Group) (sound : Sound m) (apart 
       (λ fit. let (f, good) = fits_from_member m e (block_at g k) s t w.long fit in
       onward_fit k s t r low w f good
       (onward_listed n (k + 1) t r all_next
-      (worked_next g k s w t (f.long ∙ w.long) (others_from_completes g k s w apart low m.top t f)) on))
+      (worked-next g k s w t (f.long ∙ w.long) (others_from_completes g k s w apart low m.top t f)) on))
       (λ left. onward_left k s r low w
       (λ u f good. subst (Member u) left.1 (member-fitting m e (block_at g k) s u f good))
-      (onward_listed n (k + 1) s r all_next (worked_next g k s w s w.long (λ v _. refl))
+      (onward_listed n (k + 1) s r all_next (worked-next g k s w s w.long (λ v _. refl))
       (subst (λ u. Member r (extended m e (drop (k + 1) g.blocks) u)) left.0 on)))
       (member_from_or_itself s t fits from)
 
@@ -123,10 +125,10 @@ module _ (m : Meaning) (e : ℕ → Entry) (g : Group) (sound : Sound m) (apart 
         long = f.long ∙ length-blank;
         later = λ v far. kept_from_completes m.top g.required blank s f v
             (λ o. both_ways (reached 0 (part_of g v)) far
-            (reached_part 0 0 (part_of g v) (required_owns g v o.held) (omega arith)))
+            (reached-low 0 0 (part_of g v) (part_of-required g v o.held) (omega arith)))
             ∙ value-blank v;
-        required = λ v first. term_some m.top (value s v)
-            (stored-terms m sound g.required s v held (required_holds g v first));
+        required = λ v first. some_from_term m.top (value s v)
+            (term_from_stored m sound g.required s v held (held_from_required g v first));
       }
 
   answered_onward : (s r : Row) → stored m g.required s ≡ true → Onward m e g 0 s r
@@ -135,7 +137,7 @@ module _ (m : Meaning) (e : ℕ → Entry) (g : Group) (sound : Sound m) (apart 
       record {
         long = on.long;
         required = stored-same m g.required r s (λ v there.
-            sym (upto_part g 0 r v 0 on.long (required_owns g v there) (omega arith))
+            sym (value-upto_part g 0 r v 0 on.long (part_of-required g v there) (omega arith))
             ∙ ap (λ u. value u v) on.before)
             ∙ held;
         blocks = λ i low. on.blocks i (omega arith) low;

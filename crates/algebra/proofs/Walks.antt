@@ -15,14 +15,14 @@ use Rattle.filter.specs.Filters.{passes}
 use Rattle.algebra.specs.Patterns.{blank, stored, completions}
 use Rattle.algebra.specs.Answers.{Answer, numbered}
 use Rattle.algebra.specs.Admissions.{Admission, Completes, Lawful}
-use Rattle.algebra.specs.Walk.{answer, answers, follow, otherwise, walk_part, walk_block}
-use Rattle.algebra.specs.Walk.{walk_blocks, walk_group, walk_from, walk}
+use Rattle.algebra.specs.Walk.{answer, answers, follow, otherwise, walk_part, walk_block, walk_blocks}
+use Rattle.algebra.specs.Walk.{walk_group, walk_from, walk}
 use Rattle.algebra.specs.Theorems.{SameUnderAllPruners}
 use Rattle.algebra.proofs.Lists.{all-weaker, all-filter, flat_map-same, filter-flat_map, filter-true}
-use Rattle.algebra.proofs.Listing.{fitting, or_itself, extended, rows_of, answers_of_from, answers_of}
-use Rattle.algebra.proofs.Marks.{answers-append, answers-follow, answers-answer_if}
 use Rattle.algebra.proofs.Completions.{all-completions}
+use Rattle.algebra.proofs.Listing.{fitting, or_itself, extended, rows_of, answers_of_from, answers_of}
 use Rattle.algebra.proofs.Fitting.{all-or_itself, all-fitting}
+use Rattle.algebra.proofs.Marks.{answers-append, answers-follow, answers-answer_if}
 use Rattle.algebra.proofs.Parts.{answers-walk_part}
 
 -- rows of sixteen values
@@ -31,9 +31,9 @@ use Rattle.algebra.proofs.Parts.{answers-walk_part}
 abbrev Long : Row → Type 0
 Long r = length r ≡ variables
 
-long_completions : (m : Meaning) (ts : List TriplePattern) (r : Row) → Long r
+all_long : (m : Meaning) (ts : List TriplePattern) (r : Row) → Long r
     → AllByRecursion Long (completions m.top ts r)
-long_completions m ts r long =
+all_long m ts r long =
     all-weaker (Completes m.top ts r) Long (λ s c. c.long ∙ long) (completions m.top ts r)
     (all-completions m.top ts r long)
 
@@ -66,7 +66,7 @@ module _ (m : Meaning) (e : ℕ → Entry) (admits : Admission) (law : Lawful m 
       (all-weaker Long (λ s. answers (on s) ≡ filter (passes e g.filter) (extended m e bs s))
       (answers-walk_blocks g bs) (or_itself r fits)
       (all-or_itself Long r fits long
-      (all-fitting Long m (passes e b.filter) b.triples r (long_completions m b.triples r long))))
+      (all-fitting Long m (passes e b.filter) b.triples r (all_long m b.triples r long))))
       ∙ sym (filter-flat_map (passes e g.filter) (extended m e bs) (or_itself r fits))
 
   answers-walk_group : (g : Group) → answers (walk_group m e admits g) ≡ rows_of m e g
@@ -80,7 +80,7 @@ module _ (m : Meaning) (e : ℕ → Entry) (admits : Admission) (law : Lawful m 
       (all-weaker Long (λ s. answers (on s) ≡ filter (passes e g.filter) (extended m e g.blocks s))
       (answers-walk_blocks g g.blocks) starts
       (all-filter Long (stored m g.required) (completions m.top g.required blank)
-      (long_completions m g.required blank refl)))
+      (all_long m g.required blank refl)))
       ∙ sym (filter-flat_map (passes e g.filter) (extended m e g.blocks) starts)
 
   answers-walk_from : (a : ℕ) (gs : List Group)
