@@ -32,7 +32,7 @@ pub record Open (ts : List TriplePattern) (r : Row) (v : ℕ) : Type 0 where
 
 module _ (ts : List TriplePattern) (r : Row) where
   -- the variable is in the patterns, and has no value
-  abbrev lacking : ℕ → Bool
+  abbrev pub lacking : ℕ → Bool
   lacking v = mentions v ts && not (has_value r v)
 
   pub member-open : (v : ℕ) → Open ts r v → Member v (open_variables ts r)
@@ -106,11 +106,11 @@ module _ (top : ℕ) (ts : List TriplePattern) (r s : Row) where
         (⊎_elim (λ lacks. both_ways (mentions v ts) lacks o.held) (λ some. some o.valueless)) h);
   }
 
--- completions
-
   -- every row that completes another is one of its completions
   pub member-completions : Completes top ts r s → Member s (completions top ts r)
   member-completions c = member-assignments top (open_variables ts r) r s (fills_from_completes c)
+
+-- completions
 
 module _ (top : ℕ) (ts : List TriplePattern) (r : Row) (long : length r ≡ variables) where
   -- every completion of a row completes it

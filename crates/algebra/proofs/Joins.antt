@@ -5,6 +5,8 @@ use Rattle.std.proofs.Common.{◌≡◌, ℕ, zero, suc, ◌+◌, ◌<◌, ◌�
 use Rattle.std.proofs.Common.{[], ◌∷◌, map, length, refl, sym, ap, ◌∙◌, arith, ⊎_elim, true≢false, replicate}
 use Rattle.std.proofs.Common.{subst, eq-eqb, ne_eqb}
 use Rattle.std.proofs.lemmas.Bool.{and_left, and_right, and_from, cases_Bool, cases_eq, cases_lt, cond-false}
+use Rattle.std.proofs.lemmas.Bool.{cond-true}
+use Rattle.std.proofs.Math.Bool.{and-true}
 use Rattle.std.specs.List.{filter, flat_map, range_with_len}
 use Rattle.query.specs.declared.pattern.TriplePattern.{TriplePattern}
 use Rattle.query.specs.Lawful.{mentions}
@@ -14,11 +16,12 @@ use Rattle.filter.specs.Rows.{Row, none, value, has_value}
 use Rattle.algebra.specs.Patterns.{blank, with_value, stored, open_variables, terms, assignments, completions}
 use Rattle.algebra.specs.Algebra.{bgp, agree, compatible, merge}
 use Rattle.algebra.proofs.Lists.{filter-yes, filter-no, filter-flat_map, flat_map-same, map-flat_map}
-use Rattle.algebra.proofs.Lists.{all-weaker, cond-same, map-cond, flat_map-cond}
+use Rattle.algebra.proofs.Lists.{all-weaker, cond-same, map-cond, flat_map-cond, filter-filter}
 use Rattle.algebra.proofs.Ranges.{all-range, flat_map-one}
 use Rattle.algebra.proofs.Rows.{value-with_same, value-with_other, length-with_value, equal_past, value-blank}
 use Rattle.algebra.proofs.Rows.{length-blank, some_from_has_value, none_from_has_value}
 use Rattle.algebra.proofs.Patterns.{stored-same, open_variables-blank}
+use Rattle.algebra.proofs.Completions.{lacking}
 use Rattle.algebra.proofs.Merging.{agree-none, agree-values, compatible-with_value, compatible-none}
 use Rattle.algebra.proofs.Merging.{merge-none, merge-free, merge-bound, length-merge, value-merge}
 
@@ -42,12 +45,9 @@ module _ (m : Meaning) (ts : List TriplePattern) (r : Row) where
   abbrev completed : List ℕ → Row → List Row
   completed vs s = cond (compatible r s) (held vs (merge r s)) []
 
-  -- the variable is in the patterns; and it has no value in r
+  -- the variable is in the patterns
   abbrev named : ℕ → Bool
   named v = mentions v ts
-
-  abbrev lacking : ℕ → Bool
-  lacking v = mentions v ts && not (has_value r v)
 
   -- the variables that pass the test, of the n from a on
   abbrev among : (ℕ → Bool) → ℕ → ℕ → List ℕ
@@ -63,17 +63,10 @@ module _ (m : Meaning) (ts : List TriplePattern) (r : Row) where
       ∙ ap (map (merge r)) (filter-flat_map (compatible r) (λ x. filter (stored m ts) (each x)) (terms m.top))
       ∙ map-flat_map (merge r) (λ x. filter (compatible r) (filter (stored m ts) (each x))) (terms m.top)
 
-  merged-none : (s : Row)
-      → merged [] s ≡ cond (compatible r s) (cond (stored m ts s) (merge r s ∷ []) []) []
+  merged-none : (s : Row) → merged [] s ≡ cond (stored m ts s && compatible r s) (merge r s ∷ []) []
   merged-none s =
-      ⊎_elim
-      (λ t. ap (λ l. map (merge r) (filter (compatible r) l)) (filter-yes (stored m ts) s [] t)
-      ∙ map-cond (merge r) (compatible r s) s
-      ∙ ap (λ b. cond (compatible r s) (cond b (merge r s ∷ []) []) []) (sym t))
-      (λ f. ap (λ l. map (merge r) (filter (compatible r) l)) (filter-no (stored m ts) s [] f)
-      ∙ sym (cond-same (compatible r s) [])
-      ∙ ap (λ b. cond (compatible r s) (cond b (merge r s ∷ []) []) []) (sym f))
-      (cases_Bool (stored m ts s))
+      ap (map (merge r)) (filter-filter (compatible r) (stored m ts) (s ∷ []))
+      ∙ map-cond (merge r) (stored m ts s && compatible r s) s
 
   -- s gives values to the variables of the patterns below a, and none from a on
   record Begun (a : ℕ) (s : Row) : Type 0 where
@@ -114,36 +107,40 @@ module _ (m : Meaning) (ts : List TriplePattern) (r : Row) where
   -- with no variable left
   join-none : (s : Row) → Begun (length r) s → merged [] s ≡ completed [] s
   join-none s b =
+      let both = stored m ts s && compatible r s in
       merged-none s
       ∙ ⊎_elim
-      (λ c. ap (λ t. cond (compatible r s) (cond t (merge r s ∷ []) []) [])
-      (sym (stored-same m ts (merge r s) s (begun-values s b c))))
-      (λ f. cond-false (compatible r s) _ [] f ∙ sym (cond-false (compatible r s) _ [] f))
+      (λ c. ap (λ t. cond t (merge r s ∷ []) [])
+      (ap (λ t. stored m ts s && t) c ∙ and-true (stored m ts s)
+      ∙ sym (stored-same m ts (merge r s) s (begun-values s b c)))
+      ∙ sym (cond-true (compatible r s) (held [] (merge r s)) [] c))
+      (λ f. cond-false both (merge r s ∷ []) [] (and_right (stored m ts s) (compatible r s) f)
+      ∙ sym (cond-false (compatible r s) (held [] (merge r s)) [] f))
       (cases_Bool (compatible r s))
 
   module _ (small : (v : ℕ) → value r v ≤ m.top) where
     -- a variable a, with n behind it for which the equation holds
     module _ (a n : ℕ) (s : Row) (b : Begun a s) (inside : a < length r)
         (more : (t : Row) → Begun (a + 1) t
-        → merged (among named (a + 1) n) t ≡ completed (among lacking (a + 1) n) t) where
+        → merged (among named (a + 1) n) t ≡ completed (among (lacking ts r) (a + 1) n) t) where
       -- s with a value for a, as the variables behind it make it
       more-with_value : (x : ℕ) → 1 ≤ x
           → merged (among named (a + 1) n) (with_value s a x)
           ≡ cond (agree (value r a) x && compatible r s)
-          (held (among lacking (a + 1) n) (merge r (with_value s a x))) []
+          (held (among (lacking ts r) (a + 1) n) (merge r (with_value s a x))) []
       more-with_value x p =
           more (with_value s a x) (begun-with_value a s x b inside p)
-          ∙ ap (λ c. cond c (held (among lacking (a + 1) n) (merge r (with_value s a x))) [])
+          ∙ ap (λ c. cond c (held (among (lacking ts r) (a + 1) n) (merge r (with_value s a x))) [])
           (compatible-with_value r s a x (b.rest a (omega arith)))
 
       -- a is in no pattern
       join-past : mentions a ts ≡ false
-          → merged (among named a (suc n)) s ≡ completed (among lacking a (suc n)) s
+          → merged (among named a (suc n)) s ≡ completed (among (lacking ts r) a (suc n)) s
       join-past f =
           let past = range_with_len (a + 1) n in
           ap (λ vs. merged vs s) (filter-no named a past f)
           ∙ more s (begun-past a s b f)
-          ∙ ap (λ vs. completed vs s) (sym (filter-no lacking a past (and_left (mentions a ts) _ f)))
+          ∙ ap (λ vs. completed vs s) (sym (filter-no (lacking ts r) a past (and_left (mentions a ts) _ f)))
 
       -- a has a value in r, with which no other value agrees
       bound-other : value r a ≢ none → (x : ℕ) → 1 ≤ x → x ≢ value r a
@@ -156,17 +153,17 @@ module _ (m : Meaning) (ts : List TriplePattern) (r : Row) where
 
       bound-own : value r a ≢ none
           → merged (among named (a + 1) n) (with_value s a (value r a))
-          ≡ completed (among lacking (a + 1) n) s
+          ≡ completed (among (lacking ts r) (a + 1) n) s
       bound-own some =
           let x = value r a in
-          let vs = among lacking (a + 1) n in
+          let vs = among (lacking ts r) (a + 1) n in
           let same : agree x x ≡ true = agree-values x x some some ∙ eq-eqb x x refl in
           more-with_value x (omega (arith, some))
           ∙ ap (λ c. cond (c && compatible r s) (held vs (merge r (with_value s a x))) []) same
           ∙ ap (λ t. cond (compatible r s) (held vs t) []) (merge-bound r s a x some)
 
       join-bound : mentions a ts ≡ true → has_value r a ≡ true
-          → merged (among named a (suc n)) s ≡ completed (among lacking a (suc n)) s
+          → merged (among named a (suc n)) s ≡ completed (among (lacking ts r) a (suc n)) s
       join-bound h k =
           let past = range_with_len (a + 1) n in
           let has = some_from_has_value r a k in
@@ -177,24 +174,24 @@ module _ (m : Meaning) (ts : List TriplePattern) (r : Row) where
           (omega (arith, small a)) (bound-other some)
           ∙ bound-own some
           ∙ ap (λ vs. completed vs s)
-          (sym (filter-no lacking a past (and_right (mentions a ts) _ (ap not k))))
+          (sym (filter-no (lacking ts r) a past (and_right (mentions a ts) _ (ap not k))))
 
       -- a has no value in r, and agrees with each
       free-with_value : value r a ≡ none → (x : ℕ) → 1 ≤ x
           → merged (among named (a + 1) n) (with_value s a x)
-          ≡ cond (compatible r s) (held (among lacking (a + 1) n) (with_value (merge r s) a x)) []
+          ≡ cond (compatible r s) (held (among (lacking ts r) (a + 1) n) (with_value (merge r s) a x)) []
       free-with_value free x p =
-          let vs = among lacking (a + 1) n in
+          let vs = among (lacking ts r) (a + 1) n in
           more-with_value x p
           ∙ ap (λ c. cond (c && compatible r s) (held vs (merge r (with_value s a x))) [])
           (agree-none (value r a) x free)
           ∙ ap (λ t. cond (compatible r s) (held vs t) []) (merge-free r s a x (sym b.long) free)
 
       join-free : mentions a ts ≡ true → has_value r a ≡ false
-          → merged (among named a (suc n)) s ≡ completed (among lacking a (suc n)) s
+          → merged (among named a (suc n)) s ≡ completed (among (lacking ts r) a (suc n)) s
       join-free h k =
           let past = range_with_len (a + 1) n in
-          let vs = among lacking (a + 1) n in
+          let vs = among (lacking ts r) (a + 1) n in
           let each = λ (x : ℕ). assignments m.top vs (with_value (merge r s) a x) in
           ap (λ ws. merged ws s) (filter-yes named a past h)
           ∙ merged-each a (among named (a + 1) n) s
@@ -204,11 +201,11 @@ module _ (m : Meaning) (ts : List TriplePattern) (r : Row) where
           (all-range 1 m.top))
           ∙ flat_map-cond (compatible r s) (λ x. filter (stored m ts) (each x)) (terms m.top)
           ∙ ap (λ l. cond (compatible r s) l []) (sym (filter-flat_map (stored m ts) each (terms m.top)))
-          ∙ ap (λ ws. completed ws s) (sym (filter-yes lacking a past (and_from _ _ h (ap not k))))
+          ∙ ap (λ ws. completed ws s) (sym (filter-yes (lacking ts r) a past (and_from _ _ h (ap not k))))
 
     -- through the variables from a on
     join-from : (n a : ℕ) (s : Row) → a + n ≡ length r → Begun a s
-        → merged (among named a n) s ≡ completed (among lacking a n) s
+        → merged (among named a n) s ≡ completed (among (lacking ts r) a n) s
     join-from zero a s e b =
         let last : a ≡ length r = omega arith in
         join-none s (subst (λ k. Begun k s) last b)
