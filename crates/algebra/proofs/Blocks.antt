@@ -19,7 +19,7 @@ use Rattle.algebra.specs.Patterns.{completions, open_variables}
 use Rattle.algebra.specs.Admissions.{Completes}
 use Rattle.algebra.proofs.Lists.{all-weaker, all-flat_map}
 use Rattle.algebra.proofs.Rows.{equal_past}
-use Rattle.algebra.proofs.Flat.{Less, Lowest, lowest_from_less}
+use Rattle.algebra.proofs.Lexical.{Less, Lowest, lowest_from_less}
 use Rattle.algebra.proofs.Completions.{all-completions, rising-open, open_from_member, member-open}
 use Rattle.algebra.proofs.Listing.{fitting, or_itself, extended}
 use Rattle.algebra.proofs.Fitting.{all-fitting, all-or_itself}
@@ -52,7 +52,7 @@ pub record Fitted (ts : List TriplePattern) (r s : Row) : Type 0 where
   pub given : (v : ℕ) → v < variables → mentions v ts ≡ true → 0 < value s v
   pub kept : Kept (λ v. mentions v ts) r s
 
--- fitting, or_itself
+-- completions
 
 module _ (ts : List TriplePattern) (r : Row) where
   fitted_from_completes : (top : ℕ) (s : Row) → Completes top ts r s → Fitted ts r s
@@ -89,6 +89,7 @@ module _ (ts : List TriplePattern) (r : Row) where
 -- extended
 
 module _ (m : Meaning) (e : ℕ → Entry) where
+  -- what the first block keeps of a row, the later ones keep, with a larger set of variables that may change
   pub all-extended : (bs : List Part) (r : Row) → length r ≡ variables
       → AllByRecursion (Kept (λ v. in_blocks v bs) r) (extended m e bs r)
   all-extended [] r h = (kept-self (λ _. false) r, tt)

@@ -20,7 +20,7 @@ use Rattle.algebra.proofs.Ascents.{ascending-range, ascending-filter, filter-res
 use Rattle.algebra.proofs.Rows.{value-with_same, value-with_other, none_from_has_value, has_value-none}
 use Rattle.algebra.proofs.Rows.{has_value-some, equal_from_same_row, times_from_member}
 use Rattle.algebra.proofs.Assignments.{Rising, Fills, all-assignments, member-assignments}
-use Rattle.algebra.proofs.Flat.{Less, less-never, ascending-assignments}
+use Rattle.algebra.proofs.Lexical.{Less, less-never, ascending-assignments}
 
 -- open_variables
 

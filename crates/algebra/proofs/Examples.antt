@@ -30,6 +30,7 @@ none_behind t c =
     (λ c. true≢false c.reached, (λ c. true≢false c.reached, (λ c. false≢true c.fit, tt)))
     t c.held c
 
+-- each computes, but that no triple of three is left behind the last, which is asked of each
 pub examples_hold : WorkedExamples
 unfolding encode decode verdict
 examples_hold = record {

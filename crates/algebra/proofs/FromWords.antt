@@ -24,11 +24,11 @@ use Rattle.algebra.proofs.Listing.{or_itself, extended, rows_of}
 use Rattle.algebra.proofs.Fitting.{member-stored, fits_from_member, member-fitting, member-or_itself}
 use Rattle.algebra.proofs.Fitting.{member-or_itself_none}
 use Rattle.algebra.proofs.Owners.{block_at, held_from_block, part_of-required, held_from_required}
-use Rattle.algebra.proofs.Phrases.{reached-low, reached-more, reached-high, reached_or_own, reached-unowned}
-use Rattle.algebra.proofs.Phrases.{reached-fewer, reached-first, length-upto, value-upto_reached}
-use Rattle.algebra.proofs.Phrases.{value-upto_part, value-upto_later, upto_from_values, value-upto_past}
-use Rattle.algebra.proofs.Work.{Worked, Asked, made_by, some_from_term, others_from_completes}
-use Rattle.algebra.proofs.Work.{completes_from_own}
+use Rattle.algebra.proofs.Upto.{reached-low, reached-more, reached-high, reached_or_own, reached-unowned}
+use Rattle.algebra.proofs.Upto.{reached-fewer, reached-first, length-upto, value-upto_reached}
+use Rattle.algebra.proofs.Upto.{value-upto_part, value-upto_later, upto_from_values, value-upto_past}
+use Rattle.algebra.proofs.RowsInWork.{Worked, Asked, made_by, some_from_term, others_from_completes}
+use Rattle.algebra.proofs.RowsInWork.{completes_from_own}
 
 module _ (m : Meaning) (e : ℕ → Entry) (g : Group) (r : Row) (a : Answered m e g r) where
   -- with the values of all blocks it is the row itself

@@ -16,7 +16,7 @@ use Rattle.filter.specs.Rows.{Row, none, value, has_value}
 use Rattle.algebra.specs.Patterns.{blank, with_value, stored, open_variables, terms, assignments, completions}
 use Rattle.algebra.specs.Algebra.{bgp, agree, compatible, merge}
 use Rattle.algebra.proofs.Lists.{filter-yes, filter-no, filter-flat_map, flat_map-same, map-flat_map}
-use Rattle.algebra.proofs.Lists.{all-weaker, cond-same, map-cond, flat_map-cond, filter-filter}
+use Rattle.algebra.proofs.Lists.{all-weaker, map-cond, flat_map-cond, filter-filter}
 use Rattle.algebra.proofs.Ranges.{all-range, flat_map-one}
 use Rattle.algebra.proofs.Rows.{value-with_same, value-with_other, length-with_value, equal_past, value-blank}
 use Rattle.algebra.proofs.Rows.{length-blank, some_from_has_value, none_from_has_value}

@@ -8,7 +8,7 @@ pub mod Ascents  -- lists of which each element is before the later ones
 pub mod Rows  -- the values of a row, and when two rows are the same
 pub mod Patterns  -- triple patterns under rows that have the same values
 pub mod Assignments  -- the rows that give listed variables values
-pub mod Flat  -- rows compared variable by variable, and the order of the assignments
+pub mod Lexical  -- rows compared variable by variable, and the order of the assignments
 pub mod Completions  -- the rows that give the open variables of patterns values
 -- the walk
 pub mod Listing  -- the answers of the walk, as plain lists
@@ -23,19 +23,19 @@ pub mod Merging  -- two rows compared and merged
 pub mod Joins  -- the join of a row with a basic graph pattern
 pub mod Counts  -- the algebra counts as the listing
 pub mod Cardinalities  -- how often a row occurs in what the operators make
+pub mod BasicPatterns  -- a basic graph pattern in words
 -- the order
 pub mod Owners  -- to which part a variable belongs
-pub mod Orders  -- the order of answers is total
+pub mod TotalOrder  -- of two answers that are not the same, one comes before the other
 pub mod Blocks  -- what blocks do to the values of a row
-pub mod Ordered  -- the listing ascends in the order of answers
+pub mod ListingOrder  -- the listing ascends, and has nothing twice
 -- the words
-pub mod Phrases  -- the variables reached, and a row with the values of the first parts
-pub mod Work  -- rows in work, block by block
+pub mod Upto  -- the parts reached, and a row with the values of those alone
+pub mod RowsInWork  -- what the walk has of a row when its first blocks are done
 pub mod ToWords  -- what is listed is an answer in words
 pub mod FromWords  -- an answer in words is listed
--- what the theorems say
-pub mod BasicPatterns  -- a basic graph pattern in words
-pub mod Numbered  -- the answers of each alternative
 pub mod Solutions  -- the solutions of an alternative in words
+-- what meets in the theorems
+pub mod Numbered  -- the answers of each alternative
 pub mod Completeness  -- the walk lists the answers
 pub mod Examples  -- the worked examples hold

@@ -181,9 +181,11 @@ possible_in_words : (m : Meaning) (t : TriplePattern) → Sound m → lawful_tri
 possible_in_words m t sound lawful r long = (
   λ h. let (s, there, held) = member_from_any (stored m (t ∷ [])) (completions m.top (t ∷ []) r) h in
       let done = has_from_member (Completes m.top (t ∷ []) r) s (completions m.top (t ∷ []) r)
-      (all-completions m.top (t ∷ []) r long) there in
-      (triple_under s t, (and_parts (m.has (triple_under s t)) true held).0,
-          matches_from_completes m.top (t ∷ []) r s done t),
+      (all-completions m.top (t ∷ []) r long) there in (
+        triple_under s t,
+        (and_parts (m.has (triple_under s t)) true held).0,
+        matches_from_completes m.top (t ∷ []) r s done t,
+      ),
   λ u has matches.
       possible_from_stored m (t ∷ []) r (filled r t u)
       (completes-filled r t u matches m.top (sound.terms u has) long) t (λ v h. h)

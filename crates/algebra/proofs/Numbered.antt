@@ -15,7 +15,7 @@ use Rattle.algebra.specs.Theorems.{OnceInEach}
 use Rattle.algebra.proofs.Lists.{all-every, count_by-append, count_by-map, count_by-none}
 use Rattle.algebra.proofs.Rows.{answer_of}
 use Rattle.algebra.proofs.Counts.{listing_counts}
-use Rattle.algebra.proofs.Ordered.{listing_once}
+use Rattle.algebra.proofs.ListingOrder.{listing_once}
 
 -- numbered
 

@@ -55,6 +55,7 @@ module _ (m : Meaning) (p : Row → Bool) (admits : Admission) (law : Protects m
       both_ways (admits ts r v x) left (law ts r v x s term c has.0 both.1)))
       rows complete)
 
+  -- an admitted value is walked on from, and one that is not admitted has no completion to lose
   filter-walk_through : (vs : List ℕ) (r : Row) → length r ≡ variables → open_variables ts r ≡ vs
       → filter p (answers (walk_through m admits ts fits vs r))
       ≡ filter p (filter fits (assignments m.top vs r))

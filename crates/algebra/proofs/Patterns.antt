@@ -1,4 +1,5 @@
--- Laws of triple patterns under rows. Assumes nothing.
+-- Laws of triple patterns under rows: rows with the same values for the variables of patterns make the same
+-- triples of them. Assumes nothing.
 use Rattle.std.proofs.Common.{sym, subst, ⊎_elim, ◌≡◌, ℕ, Bool, true, not, ◌&&◌, ◌||◌, List, [], ◌∷◌, refl}
 use Rattle.std.proofs.Common.{ap, ap₂, ◌∙◌, eq-eqb}
 use Rattle.std.proofs.lemmas.Bool.{and_parts, or_cases, eqb-true, or_left, or_right}

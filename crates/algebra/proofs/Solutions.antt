@@ -15,7 +15,7 @@ use Rattle.algebra.specs.Theorems.{SolutionsInWords}
 use Rattle.algebra.proofs.Lists.{count_by-total}
 use Rattle.algebra.proofs.Listing.{rows_of}
 use Rattle.algebra.proofs.Counts.{total-solutions}
-use Rattle.algebra.proofs.Ordered.{rows_once}
+use Rattle.algebra.proofs.ListingOrder.{rows_once}
 use Rattle.algebra.proofs.ToWords.{words_from_listed}
 use Rattle.algebra.proofs.FromWords.{listed_from_words}
 

@@ -27,9 +27,9 @@ use Rattle.algebra.proofs.Listing.{or_itself, extended, rows_of}
 use Rattle.algebra.proofs.Fitting.{completes_from_stored, fits_from_member, member-fitting}
 use Rattle.algebra.proofs.Fitting.{member_from_or_itself}
 use Rattle.algebra.proofs.Owners.{block_at, held_from_block, part_of-required, held_from_required}
-use Rattle.algebra.proofs.Phrases.{reached-low, value-upto_part, upto_from_values}
-use Rattle.algebra.proofs.Work.{Worked, Asked, made_by, some_from_term, value-own, worked-next}
-use Rattle.algebra.proofs.Work.{upto_from_next, others_from_completes, completes_from_own}
+use Rattle.algebra.proofs.Upto.{reached-low, value-upto_part, upto_from_values}
+use Rattle.algebra.proofs.RowsInWork.{Worked, Asked, made_by, some_from_term, value-own, worked-next}
+use Rattle.algebra.proofs.RowsInWork.{upto_from_next, others_from_completes, completes_from_own}
 
 -- r has s as its values up to the first k blocks, and each later block asks of it what it has
 pub record Onward (m : Meaning) (e : ℕ → Entry) (g : Group) (k : ℕ) (s r : Row) : Type 0 where

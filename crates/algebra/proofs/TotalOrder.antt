@@ -1,4 +1,4 @@
--- The order in which answers come. Assumes nothing.
+-- The order in which answers come is total. Assumes nothing.
 --     Ahead k parts r s     Before, of a list of parts counted from k
 use Rattle.std.proofs.Common.{◌≡◌, ℕ, ◌+◌, ◌<◌, true, ◌⊎◌, List, [], ◌∷◌, length, slice_index_or, Option}
 use Rattle.std.proofs.Common.{Some, None, inl, inr, ⊎_elim, refl, sym, ap, ◌∙◌, subst, subst₂, lt_trans}
@@ -16,7 +16,7 @@ use Rattle.algebra.specs.Order.{parts_of, part_from, part_of, no_group, Before, 
 use Rattle.algebra.specs.Words.{Answered}
 use Rattle.algebra.specs.Theorems.{OrderIsTotal}
 use Rattle.algebra.proofs.Rows.{row_from_values, answer_from_parts}
-use Rattle.algebra.proofs.Flat.{Lowest, lowest-cases}
+use Rattle.algebra.proofs.Lexical.{Lowest, lowest-cases}
 use Rattle.algebra.proofs.Owners.{part_from-yes, part_from-no, held_from_part, held_from_first}
 
 -- among rows over the parts, of which the first has the number k, r comes before s
@@ -149,6 +149,7 @@ module _ (g : Group) where
 -- rows that agree at the variables of all parts, or one of them comes first
 
 module _ (r s : Row) (one : length r ≡ variables) (two : length s ≡ variables) where
+  -- part by part: the first at whose variables the rows do not agree decides
   ahead-cases : (k : ℕ) (parts : List (List TriplePattern))
       → ((v p : ℕ) → part_from v k parts ≡ Some p → value r v ≡ value s v)
       ⊎ (Ahead k parts r s ⊎ Ahead k parts s r)

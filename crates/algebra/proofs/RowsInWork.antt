@@ -19,8 +19,8 @@ use Rattle.algebra.proofs.Rows.{value-past}
 use Rattle.algebra.proofs.Completions.{Open, kept_from_completes}
 use Rattle.algebra.proofs.Listing.{fitting}
 use Rattle.algebra.proofs.Owners.{block_at, held_from_block, owner_from_held, same_part}
-use Rattle.algebra.proofs.Phrases.{reached-low, reached-more, reached-high, reached-fewer, value-upto_reached}
-use Rattle.algebra.proofs.Phrases.{upto_from_values}
+use Rattle.algebra.proofs.Upto.{reached-low, reached-more, reached-high, reached-fewer, value-upto_reached}
+use Rattle.algebra.proofs.Upto.{upto_from_values}
 
 -- the variables of the required triples have values, those that belong to parts after k have none
 pub record Worked (g : Group) (k : ℕ) (s : Row) : Type 0 where
@@ -75,11 +75,13 @@ module _ (g : Group) (k : ℕ) (s : Row) (w : Worked g k s) where
         ⊎_elim (λ first. absurd (w.required v first o.valueless)) (λ own. own)
         (owner_from_held g apart k v o.inside low o.held)
 
+    -- so what completes s for them changes nothing else
     pub others_from_completes : (top : ℕ) (t : Row) → Completes top (block_at g k).triples s t → (v : ℕ)
         → (part_of g v ≡ Some (k + 1) → ⊥) → value t v ≡ value s v
     others_from_completes top t c v other =
         kept_from_completes top (block_at g k).triples s t c v (λ o. other (open_own v o))
 
+    -- terms for the block's own variables complete s for its triples: those are what they leave open
     pub completes_from_own : (top : ℕ) (t : Row) → length t ≡ variables
         → ((v : ℕ) → part_of g v ≡ Some (k + 1) → Term top (value t v))
         → ((v : ℕ) → (part_of g v ≡ Some (k + 1) → ⊥) → value t v ≡ value s v)

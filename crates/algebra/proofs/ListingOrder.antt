@@ -22,12 +22,12 @@ use Rattle.algebra.proofs.Ascents.{ascending-append, ascending-filter, ascending
 use Rattle.algebra.proofs.Ascents.{ascending-flat_map, count_by-ascending}
 use Rattle.algebra.proofs.Rows.{length-blank, equal_from_same_row, equal_from_same_answer, equal_past}
 use Rattle.algebra.proofs.Rows.{answer_of}
-use Rattle.algebra.proofs.Flat.{Less, lowest_from_kept}
+use Rattle.algebra.proofs.Lexical.{Less, lowest_from_kept}
 use Rattle.algebra.proofs.Completions.{ascending-completions}
 use Rattle.algebra.proofs.Listing.{fitting, or_itself, extended, rows_of, answers_of_from, answers_of}
 use Rattle.algebra.proofs.Fitting.{all-fitting, ascending-fitting}
-use Rattle.algebra.proofs.Orders.{Ahead, ahead_from_lowest, ahead_from_later, before_from_ahead, before-never}
-use Rattle.algebra.proofs.Orders.{precedes-never}
+use Rattle.algebra.proofs.TotalOrder.{Ahead, ahead_from_lowest, ahead_from_later, before_from_ahead}
+use Rattle.algebra.proofs.TotalOrder.{before-never, precedes-never}
 use Rattle.algebra.proofs.Blocks.{in_blocks, Kept, Fitted, kept-self, some_from_kept, lowest_from_fitted}
 use Rattle.algebra.proofs.Blocks.{all_fitted, all-extended}
 
@@ -154,6 +154,7 @@ apart_from_shares g h v small f =
           (not_from_false (mentions v g.required) f),
     )))
 
+-- the required triples are a part from the row without values, and the blocks go on from there
 pub ascending-rows_of : (m : Meaning) (e : ℕ → Entry) (g : Group) → shares g ≡ false
     → Ascending (Before g) (rows_of m e g)
 ascending-rows_of m e g h =
@@ -204,6 +205,7 @@ module _ (m : Meaning) (e : ℕ → Entry) where
         (λ r s. Precedes q (answer_of a r) (answer_of a s)) (λ r s _ _ b. inr (refl, b)) rows
         (all-every (λ _. Unit {0}) (λ _. tt) rows) h)
 
+    -- an alternative's rows ascend, and each later answer has a higher number
     ascending-answers_of_from : (a : ℕ) (gs : List Group)
         → ((i : ℕ) → slice_index_or q (a + i) no_group ≡ slice_index_or gs i no_group)
         → list_any shares gs ≡ false → Ascending (Precedes q) (answers_of_from m e a gs)

@@ -97,12 +97,13 @@ lowest-cases p r s one two =
     (λ l. inr (inr (lowest_from_less p s r vs up own (λ v t out. sym (outside v t out)) l))))
     (less-cases vs r s)
 
--- the assignments of a list of variables ascend in the order over it
+-- no row is before itself
 
 pub less-never : (vs : List ℕ) (r : Row) → Less vs r r → ⊥
 less-never [] r h = h
 less-never (v ∷ vs) r h = ⊎_elim (λ l. omega (arith, l)) (λ k. less-never vs r k.1) h
 
+-- the values of the first variable ascend, and among rows with the same one the later variables decide
 pub ascending-assignments : (top : ℕ) (vs : List ℕ) (r : Row) → Rising (length r) vs
     → Ascending (Less vs) (assignments top vs r)
 ascending-assignments top [] r h = (tt, tt)

@@ -1,4 +1,4 @@
--- Laws of what the words on an answer name: the variables reached, and a row with the values of the first
+-- Laws of what the words on an answer name: the parts reached, and a row with the values of the first
 -- parts alone. Assumes nothing.
 use Rattle.std.proofs.Common.{refl, ◌≡◌, ℕ, ◌+◌, ◌<◌, ◌≤◌, true, false, cond, ◌⊎◌, zero, suc, length, Some}
 use Rattle.std.proofs.Common.{None, Option, sym, ap, ◌∙◌, inl, inr, ⊎_elim, arith}
