@@ -113,7 +113,7 @@ total-as_often w (r ∷ rows) others same =
     (λ s. omega (arith, same s, total-without (one s) r others some)) in
     omega (arith, rest, total-without w r others some)
 
-total-alike : (w : Row → ℕ) (rows others : List Row) → AsOften rows others → total w rows ≡ total w others
+pub total-alike : (w : Row → ℕ) (rows others : List Row) → AsOften rows others → total w rows ≡ total w others
 total-alike w rows others same =
     total-as_often w rows others
     (λ r. sym (count_by-total (same_row r) rows) ∙ same r ∙ count_by-total (same_row r) others)
@@ -135,7 +135,7 @@ list_all-total p (s ∷ rows) =
     ap (λ b. b && list_all p rows) f ∙ sym (ne_eqb (failing p s + rest) 0 (λ z. omega (arith, z, some))))
     (cases_Bool (p s))
 
-list_all-alike : (p : Row → Bool) (rows others : List Row) → AsOften rows others
+pub list_all-alike : (p : Row → Bool) (rows others : List Row) → AsOften rows others
     → list_all p rows ≡ list_all p others
 list_all-alike p rows others same =
     list_all-total p rows

@@ -10,17 +10,17 @@ use Rattle.query.specs.Lawful.{mentions}
 use Rattle.query.specs.Limits.{variables}
 use Rattle.filter.specs.Rows.{Row, none, value, has_value}
 use Rattle.algebra.specs.Patterns.{with_value, numbers, open_variables, completions}
-use Rattle.algebra.specs.Answers.{same_row, times}
+use Rattle.algebra.specs.Answers.{times}
 use Rattle.algebra.specs.Admissions.{Completes}
 use Rattle.algebra.specs.Order.{Ascending}
 use Rattle.algebra.proofs.Lists.{all-weaker, all-filter}
 use Rattle.algebra.proofs.Members.{Member, has_from_member, member-filter, member_from_filter}
 use Rattle.algebra.proofs.Ranges.{all-range, member-range}
-use Rattle.algebra.proofs.Ascents.{ascending-range, ascending-filter, filter-rest, count_by-ascending}
+use Rattle.algebra.proofs.Ascents.{ascending-range, ascending-filter, filter-rest}
 use Rattle.algebra.proofs.Rows.{value-with_same, value-with_other, none_from_has_value, has_value-none}
-use Rattle.algebra.proofs.Rows.{has_value-some, equal_from_same_row, times_from_member}
+use Rattle.algebra.proofs.Rows.{has_value-some, times_from_member}
 use Rattle.algebra.proofs.Assignments.{Rising, Fills, all-assignments, member-assignments}
-use Rattle.algebra.proofs.Lexical.{Less, less-never, ascending-assignments}
+use Rattle.algebra.proofs.Lexical.{Less, times-ascending, ascending-assignments}
 
 -- open_variables
 
@@ -126,8 +126,6 @@ module _ (top : ℕ) (ts : List TriplePattern) (r : Row) (long : length r ≡ va
   pub completions-once : (s : Row) → Completes top ts r s → times s (completions top ts r) ≡ 1
   completions-once s c =
       let rows = completions top ts r in
-      let vs = open_variables ts r in
       let some = times_from_member s rows (member-completions top ts r s c) in
-      let most = count_by-ascending (Less vs) same_row equal_from_same_row (less-never vs) s rows
-      ascending-completions in
+      let most = times-ascending (open_variables ts r) rows ascending-completions s in
       omega (arith, some, most)

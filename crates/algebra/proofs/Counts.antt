@@ -1,7 +1,7 @@
 -- The algebra counts every answer as the listing does. Lists of which only counts matter are compared by
 -- their totals, whatever number each row counts with. Assumes nothing.
-use Rattle.std.proofs.Common.{◌≡◌, ℕ, ◌+◌, Bool, true, false, cond, not, ◌&&◌, ◌||◌, List, [], ◌∷◌, ◌++◌, map}
-use Rattle.std.proofs.Common.{map-id, refl, sym, ap, ap₂, ◌∙◌, subst, arith, ⊎_elim}
+use Rattle.std.proofs.Common.{◌≡◌, ℕ, ◌+◌, Bool, true, false, cond, not, ◌&&◌, ◌||◌, List, [], ◌∷◌, map}
+use Rattle.std.proofs.Common.{map-id, refl, sym, ap, ap₂, ◌∙◌, arith, ⊎_elim}
 use Rattle.std.proofs.lemmas.Bool.{cases_Bool, cases_lt}
 use Rattle.std.proofs.lemmas.List.Concat.{flat_map_single}
 use Rattle.std.specs.List.{filter, flat_map, list_all, AllByRecursion}
@@ -17,15 +17,16 @@ use Rattle.algebra.specs.Algebra.{bgp, compatible, merge, join, diff, left_join}
 use Rattle.algebra.specs.Answers.{left_joins, solutions, Answer, numbered, answers_from, answers_to}
 use Rattle.algebra.specs.Answers.{same_answer, times_answered}
 use Rattle.algebra.specs.Admissions.{Completes}
-use Rattle.algebra.proofs.Lists.{all-append, all-weaker, all-filter, all-flat_map, flat_map-same}
-use Rattle.algebra.proofs.Lists.{count_by-total, flat_map-flat_map, filter-same, filter-flat_map}
-use Rattle.algebra.proofs.Lists.{total-append, total-flat_map, total-map, total-filter, total-like}
-use Rattle.algebra.proofs.Lists.{total-plus}
+use Rattle.algebra.proofs.Lists.{all-append, all-weaker, all-filter, all-flat_map, count_by-total}
+use Rattle.algebra.proofs.Lists.{flat_map-flat_map, filter-same, total-append, total-flat_map, total-map}
+use Rattle.algebra.proofs.Lists.{total-filter, total-like, total-plus, filter-yes, filter-no, total-same}
+use Rattle.algebra.proofs.Members.{all_from_members}
 use Rattle.algebra.proofs.Rows.{value-blank, length-blank, answer_of}
 use Rattle.algebra.proofs.Completions.{kept_from_completes, all-completions}
 use Rattle.algebra.proofs.Listing.{fitting, or_itself, extended, rows_of, answers_of_from, answers_of}
-use Rattle.algebra.proofs.Fitting.{all-fitting}
-use Rattle.algebra.proofs.Joins.{Valid, join-pattern}
+use Rattle.algebra.proofs.Fitting.{completes_from_stored}
+use Rattle.algebra.proofs.Cardinalities.{total-alike, list_all-alike}
+use Rattle.algebra.proofs.Joins.{Valid, merges, join-pattern, stored_from_merges}
 
 -- Valid
 
@@ -58,28 +59,31 @@ abbrev vacant : {A : Type 0} → List A → Bool
 vacant [] = true
 vacant (x ∷ xs) = false
 
-and-vacant : (t : Bool) (r : Row) (rows : List Row)
-    → (not t && vacant rows) ≡ vacant (cond t (r ∷ rows) rows)
-and-vacant true r rows = refl
-and-vacant false r rows = refl
+-- all fail the test exactly if nothing passes it
+list_all-vacant : (test : Row → Bool) (rows : List Row)
+    → list_all (λ s. not (test s)) rows ≡ vacant (filter test rows)
+list_all-vacant test [] = refl
+list_all-vacant test (s ∷ rows) =
+    let later = list_all (λ u. not (test u)) rows in
+    ⊎_elim
+    (λ t. ap (λ b. not b && later) t ∙ sym (ap vacant (filter-yes test s rows t)))
+    (λ f. ap (λ b. not b && later) f ∙ list_all-vacant test rows ∙ sym (ap vacant (filter-no test s rows f)))
+    (cases_Bool (test s))
 
--- a row has no partner whose merge passes the test exactly if no merge passes it
+-- a row has no partner whose merge passes the test exactly if all its merges fail it
 list_all-partners : (test : Row → Bool) (r : Row) (right : List Row)
     → list_all (λ s. not (compatible r s) || not (test (merge r s))) right
-    ≡ vacant (filter test (map (merge r) (filter (compatible r) right)))
+    ≡ list_all (λ s. not (test s)) (map (merge r) (filter (compatible r) right))
 list_all-partners test r [] = refl
 list_all-partners test r (s ∷ right) =
-    let later = list_all (λ s. not (compatible r s) || not (test (merge r s))) right in
-    let partners = filter (compatible r) right in
+    let later = list_all (λ t. not (compatible r t) || not (test (merge r t))) right in
     let fails = not (test (merge r s)) in
+    let all = λ (rows : List Row). list_all (λ t. not (test t)) (map (merge r) rows) in
     ⊎_elim
-    (λ c. ap (λ b. (not b || fails) && later) c
-    ∙ ap (λ b. fails && b) (list_all-partners test r right)
-    ∙ and-vacant (test (merge r s)) (merge r s) (filter test (map (merge r) partners))
-    ∙ ap (λ b. vacant (filter test (map (merge r) (cond b (s ∷ partners) partners)))) (sym c))
-    (λ f. ap (λ b. (not b || fails) && later) f
-    ∙ list_all-partners test r right
-    ∙ ap (λ b. vacant (filter test (map (merge r) (cond b (s ∷ partners) partners)))) (sym f))
+    (λ c. ap (λ b. (not b || fails) && later) c ∙ ap (λ b. fails && b) (list_all-partners test r right)
+    ∙ sym (ap all (filter-yes (compatible r) s right c)))
+    (λ f. ap (λ b. (not b || fails) && later) f ∙ list_all-partners test r right
+    ∙ sym (ap all (filter-no (compatible r) s right f)))
     (cases_Bool (compatible r s))
 
 -- the rows, and besides them r where there are none
@@ -90,11 +94,10 @@ total-or_itself w r (s ∷ rows) = omega arith
 
 -- the two parts of a left join, put together row by row
 total-left : (w : Row → ℕ) (fits : Row → List Row) (left : List Row)
-    → total w (flat_map fits left ++ filter (λ r. vacant (fits r)) left)
+    → total w (flat_map fits left) + total w (filter (λ r. vacant (fits r)) left)
     ≡ total w (flat_map (λ r. or_itself r (fits r)) left)
 total-left w fits left =
-    total-append w (flat_map fits left) (filter (λ r. vacant (fits r)) left)
-    ∙ omega (
+    omega (
       arith,
       total-flat_map w fits left,
       total-filter w (λ r. vacant (fits r)) left,
@@ -105,36 +108,47 @@ total-left w fits left =
 
 module _ (m : Meaning) (test : Row → Bool) (ts : List TriplePattern) (left : List Row)
     (valid : AllByRecursion (Valid m.top) left) where
-  -- the merges that pass the test are what the rows' completions fit
-  filter-join : filter test (join left (bgp m ts)) ≡ flat_map (fitting m test ts) left
-  filter-join =
-      filter-flat_map test (λ r. map (merge r) (filter (compatible r) (bgp m ts))) left
-      ∙ flat_map-same _ _ left
-      (all-weaker _ _ (λ r h. ap (filter test) (join-pattern m ts r h)) left valid)
+  -- the completions in the store, which are as often among the merges
+  abbrev found : Row → List Row
+  found r = filter (stored m ts) (completions m.top ts r)
+
+  -- the merges that pass the test count as what the rows' completions fit
+  total-filter_join : (w : Row → ℕ)
+      → total w (filter test (join left (bgp m ts))) ≡ total w (flat_map (fitting m test ts) left)
+  total-filter_join w =
+      let passing = λ (r : Row). cond (test r) (w r) 0 in
+      total-filter w test (join left (bgp m ts))
+      ∙ total-flat_map passing (merges m ts) left
+      ∙ total-same _ _ left
+      (all-weaker _ _ (λ r h. total-alike passing (merges m ts r) (found r) (join-pattern m ts r h)
+      ∙ sym (total-filter w test (found r))) left valid)
+      ∙ sym (total-flat_map w (fitting m test ts) left)
 
   diff-bgp : diff test left (bgp m ts) ≡ filter (λ r. vacant (fitting m test ts r)) left
   diff-bgp =
       filter-same _ _ left
       (all-weaker _ _ (λ r h. list_all-partners test r (bgp m ts)
-      ∙ ap (λ l. vacant (filter test l)) (join-pattern m ts r h)) left valid)
-
-  left_join-bgp : left_join test left (bgp m ts)
-      ≡ flat_map (fitting m test ts) left ++ filter (λ r. vacant (fitting m test ts r)) left
-  left_join-bgp = ap₂ (λ xs ys. xs ++ ys) filter-join diff-bgp
+      ∙ list_all-alike (λ s. not (test s)) (merges m ts r) (found r) (join-pattern m ts r h)
+      ∙ list_all-vacant test (found r)) left valid)
 
   -- a left join with a basic pattern counts as each row's fits, or where it has none the row itself
   total-left_join : (w : Row → ℕ)
       → total w (left_join test left (bgp m ts))
       ≡ total w (flat_map (λ r. or_itself r (fitting m test ts r)) left)
-  total-left_join w = ap (total w) left_join-bgp ∙ total-left w (fitting m test ts) left
+  total-left_join w =
+      total-append w (filter test (join left (bgp m ts))) (diff test left (bgp m ts))
+      ∙ ap₂ (λ n k. n + k) (total-filter_join w) (ap (total w) diff-bgp)
+      ∙ total-left w (fitting m test ts) left
 
   all-valid_left_join : AllByRecursion (Valid m.top) (left_join test left (bgp m ts))
   all-valid_left_join =
-      subst (AllByRecursion (Valid m.top)) (sym left_join-bgp)
-      (all-append (Valid m.top) _ _
-      (all-flat_map (Valid m.top) (fitting m test ts) left
-      (all-weaker _ _ (λ r h. all-fitting (Valid m.top) m test ts r (all-valid m.top ts r h)) left valid))
-      (all-filter (Valid m.top) _ left valid))
+      all-append (Valid m.top) (filter test (join left (bgp m ts))) (diff test left (bgp m ts))
+      (all-filter (Valid m.top) test (join left (bgp m ts))
+      (all-flat_map (Valid m.top) (merges m ts) left
+      (all-weaker _ _ (λ r h. all_from_members (Valid m.top) (merges m ts r)
+      (λ s i. valid_from_completes m.top ts r s h
+      (completes_from_stored m ts r s h.long (stored_from_merges m ts r h s i)).0)) left valid)))
+      (all-filter (Valid m.top) _ left valid)
 
 -- left_joins, solutions, answers_to
 

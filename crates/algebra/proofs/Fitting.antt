@@ -9,14 +9,15 @@ use Rattle.query.specs.Parts.{Part}
 use Rattle.triples.specs.Meaning.{Meaning}
 use Rattle.filter.specs.Rows.{Row}
 use Rattle.filter.specs.Filters.{passes}
-use Rattle.algebra.specs.Patterns.{stored, completions}
+use Rattle.algebra.specs.Patterns.{stored, completions, open_variables}
 use Rattle.algebra.specs.Admissions.{Completes}
 use Rattle.algebra.specs.Order.{Ascending}
 use Rattle.algebra.specs.Words.{Fits}
 use Rattle.algebra.proofs.Lists.{all-filter}
 use Rattle.algebra.proofs.Members.{Member, has_from_member, member-filter, member_from_filter}
 use Rattle.algebra.proofs.Ascents.{ascending-filter}
-use Rattle.algebra.proofs.Completions.{all-completions, member-completions}
+use Rattle.algebra.proofs.Lexical.{Less}
+use Rattle.algebra.proofs.Completions.{ascending-completions, all-completions, member-completions}
 use Rattle.algebra.proofs.Listing.{fitting, or_itself}
 
 -- All, Ascending
@@ -27,11 +28,17 @@ all-fitting P m test ts r h =
     all-filter P test (filter (stored m ts) (completions m.top ts r))
     (all-filter P (stored m ts) (completions m.top ts r) h)
 
-pub ascending-fitting : (R : Row → Row → Type 0) (m : Meaning) (test : Row → Bool) (ts : List TriplePattern)
-    (r : Row) → Ascending R (completions m.top ts r) → Ascending R (fitting m test ts r)
-ascending-fitting R m test ts r h =
-    ascending-filter R test (filter (stored m ts) (completions m.top ts r))
-    (ascending-filter R (stored m ts) (completions m.top ts r) h)
+pub ascending-stored : (m : Meaning) (ts : List TriplePattern) (r : Row) → length r ≡ variables
+    → Ascending (Less (open_variables ts r)) (filter (stored m ts) (completions m.top ts r))
+ascending-stored m ts r long =
+    ascending-filter (Less (open_variables ts r)) (stored m ts) (completions m.top ts r)
+    (ascending-completions m.top ts r long)
+
+pub ascending-fitting : (m : Meaning) (test : Row → Bool) (ts : List TriplePattern) (r : Row)
+    → length r ≡ variables → Ascending (Less (open_variables ts r)) (fitting m test ts r)
+ascending-fitting m test ts r long =
+    ascending-filter (Less (open_variables ts r)) test (filter (stored m ts) (completions m.top ts r))
+    (ascending-stored m ts r long)
 
 pub all-or_itself : (P : Row → Type 0) (r : Row) (rows : List Row) → P r → AllByRecursion P rows
     → AllByRecursion P (or_itself r rows)

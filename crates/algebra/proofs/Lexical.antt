@@ -3,7 +3,7 @@
 --     Less vs r s        at the first variable of vs at which they differ, r has the smaller value
 --     Lowest p r s       at the lowest variable with p at which they differ, r has the smaller value
 use Rattle.std.proofs.Common.{◌≡◌, ℕ, ◌<◌, Bool, true, ◌⊎◌, List, [], ◌∷◌, length, refl, sym, ◌∙◌, subst}
-use Rattle.std.proofs.Common.{subst₂, ⊎_elim, inl, inr, arith}
+use Rattle.std.proofs.Common.{subst₂, ⊎_elim, inl, inr, arith, ◌≤◌}
 use Rattle.std.proofs.lemmas.Bool.{cases_eq, cases_lt}
 use Rattle.std.specs.List.{filter, AllByRecursion}
 use Rattle.query.specs.Limits.{variables}
@@ -11,11 +11,13 @@ use Rattle.triples.specs.Meaning.{first_term}
 use Rattle.filter.specs.Rows.{Row, value}
 use Rattle.algebra.specs.Patterns.{with_value, numbers, terms, assignments}
 use Rattle.algebra.specs.Order.{Ascending}
+use Rattle.algebra.specs.Answers.{same_row, times}
 use Rattle.algebra.proofs.Lists.{all-weaker, all-every}
 use Rattle.algebra.proofs.Members.{Member, has_from_member, member-filter, member_from_filter}
 use Rattle.algebra.proofs.Ranges.{member-range}
 use Rattle.algebra.proofs.Ascents.{ascending-filter, ascending-weaker, ascending-flat_map, ascending-range}
-use Rattle.algebra.proofs.Rows.{value-with_same, equal_past}
+use Rattle.algebra.proofs.Ascents.{count_by-ascending}
+use Rattle.algebra.proofs.Rows.{equal_from_same_row, value-with_same, equal_past}
 use Rattle.algebra.proofs.Assignments.{Rising, Fills, other_from_below, rising-rest, all-assignments}
 
 -- at the first variable of the list at which the rows differ, r has the smaller value; there is such a one
@@ -99,9 +101,14 @@ lowest-cases p r s one two =
 
 -- no row is before itself
 
-pub less-never : (vs : List ℕ) (r : Row) → Less vs r r → ⊥
+less-never : (vs : List ℕ) (r : Row) → Less vs r r → ⊥
 less-never [] r h = h
 less-never (v ∷ vs) r h = ⊎_elim (λ l. omega (arith, l)) (λ k. less-never vs r k.1) h
+
+-- so of rows that ascend each is there once at the most
+pub times-ascending : (vs : List ℕ) (rows : List Row) → Ascending (Less vs) rows → (r : Row) → times r rows ≤ 1
+times-ascending vs rows up r =
+    count_by-ascending (Less vs) same_row equal_from_same_row (less-never vs) r rows up
 
 -- the values of the first variable ascend, and among rows with the same one the later variables decide
 pub ascending-assignments : (top : ℕ) (vs : List ℕ) (r : Row) → Rising (length r) vs

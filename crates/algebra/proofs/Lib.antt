@@ -20,9 +20,9 @@ pub mod Pruning  -- every term, and the look-ahead, keep the law
 pub mod LookAhead  -- what the look-ahead asks of a pattern
 -- counts
 pub mod Merging  -- two rows compared and merged
+pub mod Cardinalities  -- how often a row occurs in what the operators make
 pub mod Joins  -- the join of a row with a basic graph pattern
 pub mod Counts  -- the algebra counts as the listing
-pub mod Cardinalities  -- how often a row occurs in what the operators make
 pub mod BasicPatterns  -- a basic graph pattern in words
 -- the order
 pub mod Owners  -- to which part a variable belongs

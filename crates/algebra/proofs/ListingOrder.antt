@@ -23,9 +23,8 @@ use Rattle.algebra.proofs.Ascents.{ascending-flat_map, count_by-ascending}
 use Rattle.algebra.proofs.Rows.{length-blank, equal_from_same_row, equal_from_same_answer, equal_past}
 use Rattle.algebra.proofs.Rows.{answer_of}
 use Rattle.algebra.proofs.Lexical.{Less, lowest_from_kept}
-use Rattle.algebra.proofs.Completions.{ascending-completions}
 use Rattle.algebra.proofs.Listing.{fitting, or_itself, extended, rows_of, answers_of_from, answers_of}
-use Rattle.algebra.proofs.Fitting.{all-fitting, ascending-fitting}
+use Rattle.algebra.proofs.Fitting.{ascending-stored, all-fitting, ascending-fitting}
 use Rattle.algebra.proofs.TotalOrder.{Ahead, ahead_from_lowest, ahead_from_later, before_from_ahead}
 use Rattle.algebra.proofs.TotalOrder.{before-never, precedes-never}
 use Rattle.algebra.proofs.Blocks.{in_blocks, Kept, Fitted, kept-self, some_from_kept, lowest_from_fitted}
@@ -139,8 +138,7 @@ module _ (m : Meaning) (e : ℕ → Entry) (ts : List TriplePattern) where
       (apart-rest ts b bs apart))
       (fitting m (passes e b.filter) b.triples r)
       (all-fitting (Fitted b.triples r) m (passes e b.filter) b.triples r (all_fitted b.triples r m.top h))
-      (ascending-fitting (Less (open_variables b.triples r)) m (passes e b.filter) b.triples r
-      (ascending-completions m.top b.triples r h))
+      (ascending-fitting m (passes e b.filter) b.triples r h)
 
 -- the rows of an alternative
 
@@ -171,8 +169,7 @@ ascending-rows_of m e g h =
     (ascending-fitted m e 0 g.required g.blocks blank long each rows
     (all-filter (Fitted g.required blank) (stored m g.required) (completions m.top g.required blank)
     (all_fitted g.required blank m.top long))
-    (ascending-filter (Less (open_variables g.required blank)) (stored m g.required)
-    (completions m.top g.required blank) (ascending-completions m.top g.required blank long))))
+    (ascending-stored m g.required blank long)))
 
 -- an alternative has no row twice
 pub rows_once : (m : Meaning) (e : ℕ → Entry) (g : Group) → shares g ≡ false → (r : Row)

@@ -1,12 +1,11 @@
 -- Laws of lists by the operation: All, flat_map, filter, the weight of a list, which is the total of a number
 -- given to each of its elements, counts, list_all, cond, and drop. Assumes nothing.
-use Rattle.std.proofs.Common.{◌≡◌, ℕ, ◌+◌, Bool, true, false, cond, ◌&&◌, List, [], ◌∷◌, ◌++◌, map, refl, sym}
-use Rattle.std.proofs.Common.{ap, ◌∙◌, subst, ⊎_elim, arith, count_by, ◌<◌, suc, length, get_or, drop}
+use Rattle.std.proofs.Common.{◌≤◌, ◌≡◌, ℕ, ◌+◌, Bool, true, false, cond, ◌&&◌, List, [], ◌∷◌, ◌++◌, map, refl}
+use Rattle.std.proofs.Common.{sym, ap, ◌∙◌, subst, ⊎_elim, arith, count_by, ◌<◌, suc, length, get_or, drop}
 use Rattle.std.proofs.Math.Seq.{drop-cons}
 use Rattle.std.proofs.lemmas.Bool.{cases_Bool, cond-true, cond-false, and_parts}
 use Rattle.std.proofs.lemmas.Grind.{flat_map-append}
 use Rattle.std.proofs.lemmas.List.Elements.{filter-append}
-use Rattle.std.proofs.lemmas.List.{map-append}
 use Rattle.std.proofs.lemmas.List.Sums.{sum_by-cons, sum_by-append}
 use Rattle.std.specs.List.{filter, flat_map, list_all, AllByRecursion}
 use Rattle.query.specs.Lawful.{total}
@@ -66,10 +65,6 @@ module _ {A B : Type 0} where
   flat_map-same f g (x ∷ xs) h =
       ap (λ ys. ys ++ flat_map f xs) h.0 ∙ ap (λ ys. g x ++ ys) (flat_map-same f g xs h.1)
 
-  pub flat_map-none : (f : A → List B) (xs : List A) → AllByRecursion (λ x. f x ≡ []) xs → flat_map f xs ≡ []
-  flat_map-none f [] h = refl
-  flat_map-none f (x ∷ xs) h = ap (λ ys. ys ++ flat_map f xs) h.0 ∙ flat_map-none f xs h.1
-
   pub flat_map-flat_map : {C : Type 0} (f : B → List C) (g : A → List B) (xs : List A)
       → flat_map f (flat_map g xs) ≡ flat_map (λ x. flat_map f (g x)) xs
   flat_map-flat_map f g [] = refl
@@ -88,12 +83,6 @@ module _ {A B : Type 0} where
       (λ n. ap (flat_map f) (filter-no p x xs n) ∙ flat_map-filter f p xs
       ∙ ap (λ ys. ys ++ flat_map (λ y. cond (p y) (f y) []) xs) (sym (cond-false (p x) (f x) [] n)))
       (cases_Bool (p x))
-
-  pub map-flat_map : {C : Type 0} (h : B → C) (f : A → List B) (xs : List A)
-      → map h (flat_map f xs) ≡ flat_map (λ x. map h (f x)) xs
-  map-flat_map h f [] = refl
-  map-flat_map h f (x ∷ xs) =
-      map-append h (f x) (flat_map f xs) ∙ ap (λ ys. map h (f x) ++ ys) (map-flat_map h f xs)
 
 -- filter
 
@@ -211,6 +200,18 @@ count_by-map p f xs =
     count_by-total p (map f xs) ∙ total-map (λ x. cond (p x) 1 0) f xs
     ∙ sym (count_by-total (λ x. p (f x)) xs)
 
+pub count_by-weaker : {A : Type 0} (p q : A → Bool) (xs : List A)
+    → AllByRecursion (λ x. p x ≡ true → q x ≡ true) xs → count_by p xs ≤ count_by q xs
+count_by-weaker p q [] h = omega arith
+count_by-weaker p q (x ∷ xs) h =
+    let rest = count_by-weaker p q xs h.1 in
+    ⊎_elim
+    (λ t. omega (arith, rest, count_by-yes p x xs t, count_by-yes q x xs (h.0 t)))
+    (λ f. let less = count_by-no p x xs f in
+    ⊎_elim (λ w. omega (arith, rest, less, count_by-yes q x xs w))
+    (λ w. omega (arith, rest, less, count_by-no q x xs w)) (cases_Bool (q x)))
+    (cases_Bool (p x))
+
 -- list_all
 
 pub all_from_list_all : {A : Type 0} (P : A → Type 0) (p : A → Bool) → ((x : A) → p x ≡ true → P x)
@@ -224,16 +225,6 @@ all_from_list_all P p to (x ∷ xs) h =
 pub cond-same : {A : Type 0} (b : Bool) (x : A) → cond b x x ≡ x
 cond-same true x = refl
 cond-same false x = refl
-
-pub map-cond : {A B : Type 0} (f : A → B) (b : Bool) (x : A)
-    → map f (cond b (x ∷ []) []) ≡ cond b (f x ∷ []) []
-map-cond f true x = refl
-map-cond f false x = refl
-
-pub flat_map-cond : {A B : Type 0} (b : Bool) (f : A → List B) (xs : List A)
-    → flat_map (λ x. cond b (f x) []) xs ≡ cond b (flat_map f xs) []
-flat_map-cond true f xs = refl
-flat_map-cond false f xs = flat_map-none (λ _. []) xs (all-every (λ _. [] ≡ []) (λ _. refl) xs)
 
 pub total-cond : {A : Type 0} (b : Bool) (w : A → ℕ) (xs : List A)
     → total (λ x. cond b (w x) 0) xs ≡ cond b (total w xs) 0

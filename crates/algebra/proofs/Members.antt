@@ -1,7 +1,7 @@
 -- Elements of lists, by the operation that made the list. Assumes nothing.
 --     Member x xs     x is an element of xs
-use Rattle.std.proofs.Common.{◌≡◌, ◌<◌, Bool, true, false, ◌||◌, ◌⊎◌, List, [], ◌∷◌, ◌++◌, count_by, refl}
-use Rattle.std.proofs.Common.{sym, ap, ◌∙◌, subst, inl, inr, ⊎_elim, arith}
+use Rattle.std.proofs.Common.{map, ◌≡◌, ◌<◌, Bool, true, false, ◌||◌, ◌⊎◌, List, [], ◌∷◌, ◌++◌, count_by}
+use Rattle.std.proofs.Common.{refl, sym, ap, ◌∙◌, subst, inl, inr, ⊎_elim, arith}
 use Rattle.std.proofs.lemmas.Bool.{cases_Bool, or_left, or_right, both_ways}
 use Rattle.std.specs.List.{filter, flat_map, list_any, AllByRecursion}
 use Rattle.algebra.proofs.Lists.{filter-yes, filter-no, count_by-yes, count_by-no}
@@ -22,6 +22,11 @@ pub has_from_member : {A : Type 0} (P : A → Type 0) (x : A) (xs : List A) → 
     → Member x xs → P x
 has_from_member P x [] h k = absurd k
 has_from_member P x (y ∷ ys) h k = ⊎_elim (λ e. subst P (sym e) h.0) (has_from_member P x ys h.1) k
+
+pub all_from_members : {A : Type 0} (P : A → Type 0) (xs : List A) → ((x : A) → Member x xs → P x)
+    → AllByRecursion P xs
+all_from_members P [] h = tt
+all_from_members P (x ∷ xs) h = (h x (inl refl), all_from_members P xs (λ y i. h y (inr i)))
 
 -- ++
 
@@ -61,6 +66,18 @@ module _ {A : Type 0} (p : A → Bool) (x : A) where
       (subst (Member x) (filter-yes p y ys w) h))
       (λ w. let k = member_from_filter ys (subst (Member x) (filter-no p y ys w) h) in (inr k.0, k.1))
       (cases_Bool (p y))
+
+-- map
+
+module _ {A B : Type 0} (f : A → B) where
+  pub member-map : (x : A) (xs : List A) → Member x xs → Member (f x) (map f xs)
+  member-map x [] h = absurd h
+  member-map x (y ∷ ys) h = ⊎_elim (λ e. inl (ap f e)) (λ i. inr (member-map x ys i)) h
+
+  pub member_from_map : (y : B) (xs : List A) → Member y (map f xs) → (x : A) × Member x xs × (y ≡ f x)
+  member_from_map y [] h = absurd h
+  member_from_map y (x ∷ xs) h =
+      ⊎_elim (λ e. (x, inl refl, e)) (λ i. let (z, k, e) = member_from_map y xs i in (z, inr k, e)) h
 
 -- flat_map
 

@@ -1,19 +1,20 @@
 -- Laws of triple patterns under rows: rows with the same values for the variables of patterns make the same
 -- triples of them. Assumes nothing.
-use Rattle.std.proofs.Common.{sym, subst, ⊎_elim, ◌≡◌, ℕ, Bool, true, not, ◌&&◌, ◌||◌, List, [], ◌∷◌, refl}
-use Rattle.std.proofs.Common.{ap, ap₂, ◌∙◌, eq-eqb}
-use Rattle.std.proofs.lemmas.Bool.{and_parts, or_cases, eqb-true, or_left, or_right}
-use Rattle.std.proofs.Math.Bool.{and-true}
+use Rattle.std.proofs.Common.{false, cond, map, length, ◌<◌, sym, subst, ⊎_elim, ◌≡◌, ℕ, Bool, true, ◌&&◌}
+use Rattle.std.proofs.Common.{◌||◌, List, [], ◌∷◌, refl, ap₂, ◌∙◌, eq-eqb}
+use Rattle.std.proofs.lemmas.Bool.{cases_lt, cond-true, cond-false, and_parts, or_cases, eqb-true, or_left}
+use Rattle.std.proofs.lemmas.Bool.{or_right}
+use Rattle.std.proofs.lemmas.List.FromFn.{length-map-range_with_len}
+use Rattle.std.specs.List.{range_with_len}
 use Rattle.query.specs.declared.place.Place.{Place}
 use Rattle.query.specs.declared.place.Place.TheVariants.{Variable, Term}
 use Rattle.query.specs.declared.pattern.TriplePattern.{TriplePattern}
 use Rattle.query.specs.Lawful.{is_variable, mentions}
 use Rattle.triples.specs.Meaning as terms
 use Rattle.triples.specs.Meaning.{Meaning}
-use Rattle.filter.specs.Rows.{Row, value, has_value, number_at}
-use Rattle.algebra.specs.Patterns.{blank, triple_under, stored, numbers, open_variables, variables_in}
-use Rattle.algebra.proofs.Lists.{filter-like}
-use Rattle.algebra.proofs.Rows.{value-blank, has_value-none}
+use Rattle.filter.specs.Rows.{Row, value, number_at}
+use Rattle.algebra.specs.Patterns.{triple_under, stored}
+use Rattle.algebra.proofs.Rows.{value-map, equal_past}
 
 -- number_at
 
@@ -79,12 +80,26 @@ term_from_stored m sound (t ∷ ts) r v held there =
     (term_from_stored m sound ts r v rest)
     (or_cases (in_triple v t) (mentions v ts) there)
 
--- open_variables
+-- lent
 
--- the row without values leaves all variables of the patterns open
-pub open_variables-blank : (ts : List TriplePattern) → open_variables ts blank ≡ variables_in ts
-open_variables-blank ts =
-    filter-like (λ v. mentions v ts && not (has_value blank v)) (λ v. mentions v ts)
-    (λ v. ap (λ b. mentions v ts && not b) (has_value-none blank v (value-blank v))
-    ∙ and-true (mentions v ts))
-    numbers
+-- the row r with the values that s gives the variables of the patterns
+abbrev pub lent : List TriplePattern → Row → Row → Row
+lent ts r s = map (λ v. cond (mentions v ts) (value s v) (value r v)) (range_with_len 0 (length r))
+
+module _ (ts : List TriplePattern) (r s : Row) where
+  pub length-lent : length (lent ts r s) ≡ length r
+  length-lent = length-map-range_with_len (λ v. cond (mentions v ts) (value s v) (value r v)) 0 (length r)
+
+  value-lent : (v : ℕ) → v < length r → value (lent ts r s) v ≡ cond (mentions v ts) (value s v) (value r v)
+  value-lent v = value-map (λ w. cond (mentions w ts) (value s w) (value r w)) (length r) v
+
+  pub value-lent_own : length s ≡ length r → (v : ℕ) → mentions v ts ≡ true
+      → value (lent ts r s) v ≡ value s v
+  value-lent_own long v h =
+      ⊎_elim (λ low. value-lent v low ∙ cond-true (mentions v ts) (value s v) (value r v) h)
+      (equal_past (lent ts r s) s (length r) length-lent long v) (cases_lt v (length r))
+
+  pub value-lent_other : (v : ℕ) → mentions v ts ≡ false → value (lent ts r s) v ≡ value r v
+  value-lent_other v f =
+      ⊎_elim (λ low. value-lent v low ∙ cond-false (mentions v ts) (value s v) (value r v) f)
+      (equal_past (lent ts r s) r (length r) length-lent refl v) (cases_lt v (length r))

@@ -1,63 +1,36 @@
 -- The two admissions that are always to be had keep the law. Assumes nothing.
---     lent r s t          the row r with the values that s gives the variables of the pattern t
 --     pruners_lawful      every term, and the look-ahead, are lawful
-use Rattle.std.proofs.Common.{◌≡◌, ℕ, ◌<◌, true, false, List, [], ◌∷◌, length, refl, sym, ◌∙◌, subst, inl}
-use Rattle.std.proofs.Common.{inr, ⊎_elim, leb, cond, map}
-use Rattle.std.proofs.lemmas.Bool.{cases_Bool, cases_lt, and_parts, and_from, or_left, or_right, le-leb}
-use Rattle.std.proofs.lemmas.Bool.{leb-true, both_ways, cond-true, cond-false}
+use Rattle.std.proofs.Common.{◌≡◌, ℕ, true, List, [], ◌∷◌, refl, sym, ◌∙◌, subst, inl, inr, ⊎_elim, leb}
+use Rattle.std.proofs.lemmas.Bool.{cases_Bool, and_parts, and_from, or_left, or_right, le-leb, leb-true}
+use Rattle.std.proofs.lemmas.Bool.{both_ways}
 use Rattle.std.proofs.Math.Bool.{or-false}
-use Rattle.std.proofs.lemmas.List.FromFn.{length-map-range_with_len}
-use Rattle.std.specs.List.{list_all, range_with_len}
+use Rattle.std.specs.List.{list_all}
 use Rattle.query.specs.declared.pattern.TriplePattern.{TriplePattern}
 use Rattle.query.specs.Lawful.{mentions}
 use Rattle.triples.specs.Meaning.{Meaning, Term, term}
-use Rattle.filter.specs.Rows.{Row, value}
+use Rattle.filter.specs.Rows.{Row}
 use Rattle.algebra.specs.Patterns.{with_value, triple_under, stored, completions}
 use Rattle.algebra.specs.Admissions.{Completes, possible}
 use Rattle.algebra.specs.Theorems.{PrunersLawful}
 use Rattle.algebra.proofs.Members.{any_from_member}
-use Rattle.algebra.proofs.Rows.{value-map, equal_past}
-use Rattle.algebra.proofs.Patterns.{stored-same}
+use Rattle.algebra.proofs.Patterns.{stored-same, lent, length-lent, value-lent_own, value-lent_other}
 use Rattle.algebra.proofs.Completions.{member-completions}
-
--- the row r with the values that s gives the variables of the pattern
-abbrev lent : Row → Row → TriplePattern → Row
-lent r s t = map (λ v. cond (mentions v (t ∷ [])) (value s v) (value r v)) (range_with_len 0 (length r))
-
-module _ (r s : Row) (t : TriplePattern) (long : length s ≡ length r) where
-  length-lent : length (lent r s t) ≡ length r
-  length-lent =
-      length-map-range_with_len (λ v. cond (mentions v (t ∷ [])) (value s v) (value r v)) 0 (length r)
-
-  value-lent : (v : ℕ) → v < length r
-      → value (lent r s t) v ≡ cond (mentions v (t ∷ [])) (value s v) (value r v)
-  value-lent v = value-map (λ w. cond (mentions w (t ∷ [])) (value s w) (value r w)) (length r) v
-
-  value-lent_own : (v : ℕ) → mentions v (t ∷ []) ≡ true → value (lent r s t) v ≡ value s v
-  value-lent_own v h =
-      ⊎_elim (λ low. value-lent v low ∙ cond-true (mentions v (t ∷ [])) (value s v) (value r v) h)
-      (equal_past (lent r s t) s (length r) length-lent long v) (cases_lt v (length r))
-
-  value-lent_other : (v : ℕ) → mentions v (t ∷ []) ≡ false → value (lent r s t) v ≡ value r v
-  value-lent_other v f =
-      ⊎_elim (λ low. value-lent v low ∙ cond-false (mentions v (t ∷ [])) (value s v) (value r v) f)
-      (equal_past (lent r s t) r (length r) length-lent refl v) (cases_lt v (length r))
 
 -- the law
 
 -- of what completes a row for a part, the values of one pattern's variables complete it for that pattern
 module _ (m : Meaning) (ts : List TriplePattern) (r s : Row) (done : Completes m.top ts r s) where
   completes-lent : (t : TriplePattern) → ((v : ℕ) → mentions v (t ∷ []) ≡ true → mentions v ts ≡ true)
-      → Completes m.top (t ∷ []) r (lent r s t)
+      → Completes m.top (t ∷ []) r (lent (t ∷ []) r s)
   completes-lent t inside = record {
-    long = length-lent r s t done.long;
-    given = λ v small held free. subst (Term m.top) (sym (value-lent_own r s t done.long v held))
+    long = length-lent (t ∷ []) r s;
+    given = λ v small held free. subst (Term m.top) (sym (value-lent_own (t ∷ []) r s done.long v held))
         (done.given v small (inside v held) free);
     kept = λ v h. ⊎_elim
-        (λ held. value-lent_own r s t done.long v held ∙ done.kept v
+        (λ held. value-lent_own (t ∷ []) r s done.long v held ∙ done.kept v
         (⊎_elim inl
         (⊎_elim (λ lacks. absurd (both_ways (mentions v (t ∷ [])) lacks held)) (λ some. inr (inr some))) h))
-        (value-lent_other r s t done.long v)
+        (value-lent_other (t ∷ []) r s v)
         (cases_Bool (mentions v (t ∷ [])));
   }
 
@@ -65,9 +38,9 @@ module _ (m : Meaning) (ts : List TriplePattern) (r s : Row) (done : Completes m
       → ((v : ℕ) → mentions v (t ∷ []) ≡ true → mentions v ts ≡ true)
       → stored m (t ∷ []) s ≡ true → possible m r t ≡ true
   possible_from_stored t inside has =
-      any_from_member (stored m (t ∷ [])) (lent r s t) (completions m.top (t ∷ []) r)
-      (member-completions m.top (t ∷ []) r (lent r s t) (completes-lent t inside))
-      (stored-same m (t ∷ []) (lent r s t) s (value-lent_own r s t done.long) ∙ has)
+      any_from_member (stored m (t ∷ [])) (lent (t ∷ []) r s) (completions m.top (t ∷ []) r)
+      (member-completions m.top (t ∷ []) r (lent (t ∷ []) r s) (completes-lent t inside))
+      (stored-same m (t ∷ []) (lent (t ∷ []) r s) s (value-lent_own (t ∷ []) r s done.long) ∙ has)
 
   list_all-possible : (us : List TriplePattern) → ((v : ℕ) → mentions v us ≡ true → mentions v ts ≡ true)
       → stored m us s ≡ true → list_all (possible m r) us ≡ true

@@ -1,9 +1,8 @@
 -- Laws of ranges, the n numbers from a on. Assumes nothing.
-use Rattle.std.proofs.Common.{◌≡◌, ℕ, ◌+◌, ◌<◌, ◌≤◌, ◌≢◌, List, [], ◌++◌, append-nil, ap, ◌∙◌, ⊎_elim, arith}
-use Rattle.std.proofs.Common.{zero, suc, inl, inr}
+use Rattle.std.proofs.Common.{ℕ, ◌+◌, ◌<◌, ◌≤◌, ⊎_elim, arith, zero, suc, inl, inr}
 use Rattle.std.proofs.lemmas.Bool.{cases_eq}
-use Rattle.std.specs.List.{flat_map, range_with_len, AllByRecursion}
-use Rattle.algebra.proofs.Lists.{all-weaker, flat_map-none}
+use Rattle.std.specs.List.{range_with_len, AllByRecursion}
+use Rattle.algebra.proofs.Lists.{all-weaker}
 use Rattle.algebra.proofs.Members.{Member}
 
 -- each is from a on and below a + n
@@ -21,18 +20,3 @@ member-range a zero x low high = absurd (omega (arith, low, high))
 member-range a (suc n) x low high =
     ⊎_elim inl
     (λ ne. inr (member-range (a + 1) n x (omega (arith, low, ne)) (omega (arith, high)))) (cases_eq x a)
-
--- only one number of the range gives something
-pub flat_map-one : {A : Type 0} (f : ℕ → List A) (y a n : ℕ) → a ≤ y → y < a + n
-    → ((x : ℕ) → a ≤ x → x ≢ y → f x ≡ []) → flat_map f (range_with_len a n) ≡ f y
-flat_map-one f y a zero low high h = absurd (omega arith)
-flat_map-one f y a (suc n) low high h =
-    let later = range_with_len (a + 1) n in
-    ⊎_elim
-    (λ e. ap (λ l. f a ++ l) (flat_map-none f later
-    (all-weaker (λ x. (a + 1 ≤ x) × (x < (a + 1) + n)) (λ x. f x ≡ [])
-    (λ x k. h x (omega (arith, k.0)) (λ d. omega (arith, k.0, d, e))) later (all-range (a + 1) n)))
-    ∙ append-nil (f a) ∙ ap f e)
-    (λ d. ap (λ l. l ++ flat_map f later) (h a (omega arith) d)
-    ∙ flat_map-one f y (a + 1) n (omega arith) (omega arith) (λ x l. h x (omega arith)))
-    (cases_eq a y)

@@ -55,11 +55,6 @@ row_from_values r s long same = ext_get_or none r s long (λ v _. same v)
 
 -- has_value
 
-pub some_from_has_value : (r : Row) (v : ℕ) → has_value r v ≡ true → 0 < value r v
-some_from_has_value r v h =
-    ⊎_elim (λ e. let test = eq-eqb (value r v) 0 e in absurd (false≢true (sym (ap not test) ∙ h)))
-    (λ n. omega (arith, n)) (cases_eq (value r v) 0)
-
 pub none_from_has_value : (r : Row) (v : ℕ) → has_value r v ≡ false → value r v ≡ 0
 none_from_has_value r v h =
     ⊎_elim (λ e. e)
@@ -74,7 +69,7 @@ has_value-some r v h = ap not (ne_eqb (value r v) 0 (λ e. omega (arith, h, e)))
 
 -- same_row, same_answer
 
-same_row_decides : (r s : Row) → Decides (same_row r s) (r ≡ s)
+pub same_row_decides : (r s : Row) → Decides (same_row r s) (r ≡ s)
 same_row_decides r s = bytes_eq-Decides r s
 
 pub equal_from_same_row : (r s : Row) → same_row r s ≡ true → r ≡ s
