@@ -154,7 +154,8 @@ module _ (m : Meaning) (ts : List TriplePattern) (r : Row) (valid : Valid m.top 
       let long = ap length e ∙ long-merged t c fits ∙ sym length-blank in
       row_from_values (lent ts blank s) t (length-lent ts blank s ∙ sym c.long)
       (λ v. ⊎_elim
-      (λ held. value-lent_own ts blank s long v held ∙ ap (λ u. value u v) e ∙ value-merge_own t c fits v held)
+      (λ held. value-lent_own ts blank s long v held ∙ ap (λ u. value u v) e
+      ∙ value-merge_own t c fits v held)
       (λ lacks. value-lent_other ts blank s v lacks ∙ sym (c.kept v (inr (inl lacks))))
       (cases_Bool (mentions v ts)))
 

@@ -106,7 +106,8 @@ less-never [] r h = h
 less-never (v ∷ vs) r h = ⊎_elim (λ l. omega (arith, l)) (λ k. less-never vs r k.1) h
 
 -- so of rows that ascend each is there once at the most
-pub times-ascending : (vs : List ℕ) (rows : List Row) → Ascending (Less vs) rows → (r : Row) → times r rows ≤ 1
+pub times-ascending : (vs : List ℕ) (rows : List Row) → Ascending (Less vs) rows → (r : Row)
+    → times r rows ≤ 1
 times-ascending vs rows up r =
     count_by-ascending (Less vs) same_row equal_from_same_row (less-never vs) r rows up
 

@@ -2,15 +2,14 @@
 use Rattle.std.proofs.Common.{◌≡◌, ℕ, suc, ◌+◌, ◌<◌, ◌≤◌, true, false, not, ◌&&◌, ◌⊎◌, List, [], ◌∷◌, map}
 use Rattle.std.proofs.Common.{length, slice_index_or, refl, sym, ap, ◌∙◌, subst, ⊎_elim, inl, inr, append-nil}
 use Rattle.std.proofs.Common.{add-zero, zero-add, arith}
-use Rattle.std.proofs.lemmas.Bool.{cases_Bool, cases_lt, both_ways, or_parts, and_cases, and_parts, and_from}
-use Rattle.std.proofs.lemmas.Bool.{not-true, false_from_ne_true, not_from_false}
+use Rattle.std.proofs.lemmas.Bool.{cases_Bool, cases_lt, both_ways, or_parts, and_cases, and_parts}
+use Rattle.std.proofs.lemmas.Bool.{not-true}
 use Rattle.std.specs.List.{filter, flat_map, list_any, AllByRecursion}
 use Rattle.catalogue.specs.Entries.{Entry}
 use Rattle.query.specs.declared.pattern.TriplePattern.{TriplePattern}
 use Rattle.query.specs.Lawful.{mentions, in_two, shares, limited, lawful}
 use Rattle.query.specs.Limits.{variables}
 use Rattle.query.specs.Parts.{Part, Group}
-use Rattle.query.proofs.Lawful.{shares_decides}
 use Rattle.triples.specs.Meaning.{Meaning}
 use Rattle.filter.specs.Rows.{Row, value}
 use Rattle.filter.specs.Filters.{passes}
@@ -25,6 +24,7 @@ use Rattle.algebra.proofs.Rows.{answer_of}
 use Rattle.algebra.proofs.Lexical.{Less, lowest_from_kept}
 use Rattle.algebra.proofs.Listing.{fitting, or_itself, extended, rows_of, answers_of_from, answers_of}
 use Rattle.algebra.proofs.Fitting.{ascending-stored, all-fitting, ascending-fitting}
+use Rattle.algebra.proofs.Owners.{apart_from_shares}
 use Rattle.algebra.proofs.TotalOrder.{Ahead, ahead_from_lowest, ahead_from_later, before_from_ahead}
 use Rattle.algebra.proofs.TotalOrder.{before-never, precedes-never}
 use Rattle.algebra.proofs.Blocks.{in_blocks, Kept, Fitted, kept-self, some_from_kept, lowest_from_fitted}
@@ -60,16 +60,13 @@ Apart ts bs = (v : ℕ) → v < variables → mentions v ts ≡ false → in_two
 abbrev Given : List TriplePattern → Row → Type 0
 Given ts r = (v : ℕ) → v < variables → mentions v ts ≡ true → 0 < value r v
 
-apart-first : (ts : List TriplePattern) (b : Part) (bs : List Part) → Apart ts (b ∷ bs)
-    → (v : ℕ) → v < variables → mentions v ts ≡ false → (mentions v b.triples && in_blocks v bs) ≡ false
-apart-first ts b bs apart v small f =
-    (or_parts (mentions v b.triples && in_blocks v bs) (in_two (λ c. mentions v c.triples) bs)
-    (apart v small f)).0
-
-apart-rest : (ts : List TriplePattern) (b : Part) (bs : List Part) → Apart ts (b ∷ bs) → Apart ts bs
-apart-rest ts b bs apart v small f =
-    (or_parts (mentions v b.triples && in_blocks v bs) (in_two (λ c. mentions v c.triples) bs)
-    (apart v small f)).1
+-- none is in the first block and a later one, and none is in two of the later ones
+apart_parts : (ts : List TriplePattern) (b : Part) (bs : List Part) → Apart ts (b ∷ bs)
+    → (v : ℕ) → v < variables → mentions v ts ≡ false
+    → ((mentions v b.triples && in_blocks v bs) ≡ false) × (in_two (λ c. mentions v c.triples) bs ≡ false)
+apart_parts ts b bs apart v small f =
+    or_parts (mentions v b.triples && in_blocks v bs) (in_two (λ c. mentions v c.triples) bs)
+    (apart v small f)
 
 -- a block's variables are settled before it: the triples hold them, or no later block does
 settled_from_apart : (ts : List TriplePattern) (b : Part) (bs : List Part) (r : Row) → Given ts r
@@ -78,7 +75,7 @@ settled_from_apart ts b bs r given apart v small t =
     ⊎_elim
     (λ y. inl (given v small y))
     (λ f. ⊎_elim (λ n. absurd (both_ways (mentions v b.triples) n t)) inr
-    (and_cases (mentions v b.triples) (in_blocks v bs) (apart-first ts b bs apart v small f)))
+    (and_cases (mentions v b.triples) (in_blocks v bs) (apart_parts ts b bs apart v small f).0))
     (cases_Bool (mentions v ts))
 
 -- the blocks as parts
@@ -135,25 +132,15 @@ module _ (m : Meaning) (e : ℕ → Entry) (ts : List TriplePattern) where
       ascending-or_itself m e k b.triples bs r h (settled_from_apart ts b bs r given apart)
       (λ s f. ascending-extended bs (k + 1) s (f.long ∙ h)
       (λ v small t. some_from_kept (λ w. mentions w b.triples) r s f v (given v small t))
-      (apart-rest ts b bs apart))
+      (λ v small f. (apart_parts ts b bs apart v small f).1))
       (fitting m (passes e b.filter) b.triples r)
       (all-fitting (Fitted b.triples r) m (passes e b.filter) b.triples r (all_fitted b.triples r m.top h))
       (ascending-fitting m (passes e b.filter) b.triples r h)
 
 -- the rows of an alternative
 
-apart_from_shares : (g : Group) → shares g ≡ false → Apart g.required g.blocks
-apart_from_shares g h v small f =
-    false_from_ne_true (in_two (λ b. mentions v b.triples) g.blocks)
-    (λ t. both_ways (shares g) h ((shares_decides g).1 (
-      v,
-      small,
-      and_from (in_two (λ b. mentions v b.triples) g.blocks) (not (mentions v g.required)) t
-          (not_from_false (mentions v g.required) f),
-    )))
-
 -- the required triples are a part from the row without values, and the blocks go on from there
-pub ascending-rows_of : (m : Meaning) (e : ℕ → Entry) (g : Group) → shares g ≡ false
+ascending-rows_of : (m : Meaning) (e : ℕ → Entry) (g : Group) → shares g ≡ false
     → Ascending (Before g) (rows_of m e g)
 ascending-rows_of m e g h =
     let long = length-blank in

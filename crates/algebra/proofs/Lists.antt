@@ -166,7 +166,7 @@ module _ {A : Type 0} (w : A → ℕ) where
   total-plus v [] = refl
   total-plus v (x ∷ xs) = omega (arith, total-plus v xs)
 
-  pub total-zero : (xs : List A) → AllByRecursion (λ x. w x ≡ 0) xs → total w xs ≡ 0
+  total-zero : (xs : List A) → AllByRecursion (λ x. w x ≡ 0) xs → total w xs ≡ 0
   total-zero [] h = refl
   total-zero (x ∷ xs) h = omega (arith, h.0, total-zero xs h.1)
 

@@ -3,8 +3,8 @@ use Rattle.std.proofs.Common.{◌≡◌, ℕ, zero, suc, ◌+◌, ◌<◌, ◌�
 use Rattle.std.proofs.Common.{◌∷◌, map, length, get_or, Some, Option, sym, ap, ◌∙◌, subst, inl, inr, ⊎_elim}
 use Rattle.std.proofs.Common.{arith}
 use Rattle.std.proofs.Math.ListN.{length-map, get_or-map}
-use Rattle.std.proofs.lemmas.Bool.{cases_Bool, both_ways, cases_lt, cond-true, cond-false, and_from, or_left}
-use Rattle.std.proofs.lemmas.Bool.{or_right, not_from_false}
+use Rattle.std.proofs.lemmas.Bool.{false_from_ne_true, cases_Bool, both_ways, cases_lt, cond-true, cond-false}
+use Rattle.std.proofs.lemmas.Bool.{and_from, or_left, or_right, not_from_false}
 use Rattle.std.proofs.lemmas.List.Folds.{list_any_at}
 use Rattle.std.specs.List.{list_any}
 use Rattle.query.specs.declared.pattern.TriplePattern.{TriplePattern}
@@ -49,7 +49,7 @@ held_from_first v p ts parts h =
     subst (λ k. mentions v (get_or (ts ∷ parts) k []) ≡ true) first t
 
 -- a variable in a part's triples belongs to that part or to one before it
-pub first_from_held : (v p : ℕ) (parts : List (List TriplePattern)) (i : ℕ) → i < length parts
+first_from_held : (v p : ℕ) (parts : List (List TriplePattern)) (i : ℕ) → i < length parts
     → mentions v (get_or parts i []) ≡ true → (k : ℕ) × (part_from v p parts ≡ Some k) × (k ≤ p + i)
 first_from_held v p [] i low t = absurd (omega arith)
 first_from_held v p (ts ∷ parts) zero low t = (p, part_from-yes v p ts parts t, omega arith)
@@ -62,7 +62,7 @@ first_from_held v p (ts ∷ parts) (suc i) low t =
 
 -- in_two
 
-pub in_two_from_places : {A : Type 0} (p : A → Bool) (xs : List A) (i j : ℕ) (d : A) → i < j → j < length xs
+in_two_from_places : {A : Type 0} (p : A → Bool) (xs : List A) (i j : ℕ) (d : A) → i < j → j < length xs
     → p (get_or xs i d) ≡ true → p (get_or xs j d) ≡ true → in_two p xs ≡ true
 in_two_from_places p [] i j d low high t w = absurd (omega arith)
 in_two_from_places p (x ∷ xs) i zero d low high t w = absurd (omega arith)
@@ -103,6 +103,18 @@ held_from_block g i v h =
     ))
     (cases_Bool (mentions v g.required))
 
+-- no variable that the required triples lack is in two blocks
+pub apart_from_shares : (g : Group) → shares g ≡ false → (v : ℕ) → v < variables
+    → mentions v g.required ≡ false → in_two (λ b. mentions v b.triples) g.blocks ≡ false
+apart_from_shares g apart v small lacks =
+    false_from_ne_true (in_two (λ b. mentions v b.triples) g.blocks)
+    (λ t. both_ways (shares g) apart ((shares_decides g).1 (
+      v,
+      small,
+      and_from (in_two (λ b. mentions v b.triples) g.blocks) (not (mentions v g.required)) t
+          (not_from_false (mentions v g.required) lacks),
+    )))
+
 -- a variable in the triples of block i belongs to that block, or to the required triples: it is in two blocks
 -- only if it is in those
 pub owner_from_held : (g : Group) → shares g ≡ false → (i v : ℕ) → v < variables → i < length g.blocks
@@ -120,12 +132,8 @@ owner_from_held g apart i v small low t =
     owner (suc j) own first =
         let (high, held, lacks) = held_from_block g j v (own ∙ ap Some (omega arith)) in
         ⊎_elim
-        (λ before. absurd (both_ways (shares g) apart ((shares_decides g).1 (
-          v,
-          small,
-          and_from (in_two (λ b. mentions v b.triples) g.blocks) (not (mentions v g.required))
-              (in_two_from_places (λ b. mentions v b.triples) g.blocks j i no_part before low held t)
-              (not_from_false (mentions v g.required) lacks),
-        ))))
+        (λ before. absurd (both_ways (in_two (λ b. mentions v b.triples) g.blocks)
+        (apart_from_shares g apart v small lacks)
+        (in_two_from_places (λ b. mentions v b.triples) g.blocks j i no_part before low held t)))
         (λ same. inr (own ∙ ap Some (omega arith)))
         (cases_lt j i)

@@ -26,7 +26,7 @@ use Rattle.algebra.proofs.Marks.{answers-flat_map, answers-answer_if}
 
 -- a value from 1 to the top is admitted if some completion of the row with it has all the part's triples in
 -- the store and passes p
-abbrev pub Protects : Meaning → (Row → Bool) → Admission → Type 0
+abbrev Protects : Meaning → (Row → Bool) → Admission → Type 0
 Protects m p admits = (ts : List TriplePattern) (r : Row) (v x : ℕ) (s : Row) → Term m.top x
     → Completes m.top ts (with_value r v x) s → stored m ts s ≡ true → p s ≡ true → admits ts r v x ≡ true
 
@@ -86,7 +86,7 @@ module _ (m : Meaning) (p : Row → Bool) (admits : Admission) (law : Protects m
       ∙ filter-flat_map p (λ x. filter fits (rows x)) (terms m.top))
 
   -- of the answers and of the completions that fit, the same pass p
-  pub filter-walk_part : (r : Row) → length r ≡ variables
+  filter-walk_part : (r : Row) → length r ≡ variables
       → filter p (answers (walk_part m admits test ts r)) ≡ filter p (fitting m test ts r)
   filter-walk_part r long =
       filter-walk_through (open_variables ts r) r long refl

@@ -1,5 +1,7 @@
 -- Laws of triple patterns under rows: rows with the same values for the variables of patterns make the same
--- triples of them. Assumes nothing.
+-- triples of them, and a row can take these values from another. Assumes nothing.
+--     in_triple v t      v is in the pattern t
+--     lent ts r s        the row r with the values that s gives the variables of ts
 use Rattle.std.proofs.Common.{false, cond, map, length, ◌<◌, sym, subst, ⊎_elim, ◌≡◌, ℕ, Bool, true, ◌&&◌}
 use Rattle.std.proofs.Common.{◌||◌, List, [], ◌∷◌, refl, ap₂, ◌∙◌, eq-eqb}
 use Rattle.std.proofs.lemmas.Bool.{cases_lt, cond-true, cond-false, and_parts, or_cases, eqb-true, or_left}

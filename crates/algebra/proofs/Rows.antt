@@ -1,4 +1,5 @@
--- Laws of rows: the value of a variable, a row with a value, and when two rows are the same. Assumes nothing.
+-- Laws of rows: the value of a variable, a row with a value, when two rows are the same, and whether a row is
+-- among rows. Assumes nothing.
 use Rattle.std.proofs.Common.{◌≡◌, ℕ, ◌<◌, ◌≤◌, true, false, not, List, length, refl, sym, ap, ◌∙◌, subst}
 use Rattle.std.proofs.Common.{⊎_elim, arith, Decides, eqb, ap₂, map}
 use Rattle.std.proofs.lemmas.Bool.{cases_eq, cases_lt, eqb-true, false≢true, ne_eqb, eq-eqb, and_parts}

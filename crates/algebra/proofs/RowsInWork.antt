@@ -29,7 +29,7 @@ pub record Worked (g : Group) (k : ℕ) (s : Row) : Type 0 where
   pub required : (v : ℕ) → part_of g v ≡ Some 0 → value s v ≢ none
 
 -- a variable belongs to the part, or it does not
-pub cases_part : (o : Option ℕ) (k : ℕ) → (o ≡ Some k) ⊎ (o ≡ Some k → ⊥)
+cases_part : (o : Option ℕ) (k : ℕ) → (o ≡ Some k) ⊎ (o ≡ Some k → ⊥)
 cases_part None k = inr (λ e. cc)
 cases_part (Some j) k =
     ⊎_elim (λ e. inl (ap Some e)) (λ n. inr (λ e. let same : j ≡ k = cc in n same)) (cases_eq j k)

@@ -32,11 +32,11 @@ use Rattle.algebra.proofs.RowsInWork.{Worked, Asked, made_by, some_from_term, va
 use Rattle.algebra.proofs.RowsInWork.{upto_from_next, others_from_completes, completes_from_own}
 
 -- r has s as its values up to the first k blocks, and each later block asks of it what it has
-pub record Onward (m : Meaning) (e : ℕ → Entry) (g : Group) (k : ℕ) (s r : Row) : Type 0 where
-  pub long : length r ≡ variables
-  pub before : upto g k r ≡ s
-  pub blocks : (i : ℕ) → k ≤ i → i < length g.blocks → Asked m e g r i
-  pub others : (v : ℕ) → part_of g v ≡ None → value r v ≡ none
+record Onward (m : Meaning) (e : ℕ → Entry) (g : Group) (k : ℕ) (s r : Row) : Type 0 where
+  long : length r ≡ variables
+  before : upto g k r ≡ s
+  blocks : (i : ℕ) → k ≤ i → i < length g.blocks → Asked m e g r i
+  others : (v : ℕ) → part_of g v ≡ None → value r v ≡ none
 
 onward_none : (m : Meaning) (e : ℕ → Entry) (g : Group) (k : ℕ) (s r : Row) → k ≡ length g.blocks
     → Worked g k s → r ≡ s → Onward m e g k s r
