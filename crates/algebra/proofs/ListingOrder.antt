@@ -1,13 +1,12 @@
 -- The listing ascends, so it has nothing twice. Assumes nothing.
-use Rattle.std.proofs.Common.{◌≡◌, ℕ, suc, ◌+◌, ◌<◌, ◌≤◌, true, false, not, ◌&&◌, ◌⊎◌, List, [], ◌∷◌, map}
+use Rattle.std.proofs.Common.{◌≡◌, ℕ, suc, ◌+◌, ◌<◌, ◌≤◌, true, false, ◌&&◌, ◌⊎◌, List, [], ◌∷◌, map}
 use Rattle.std.proofs.Common.{length, slice_index_or, refl, sym, ap, ◌∙◌, subst, ⊎_elim, inl, inr, append-nil}
 use Rattle.std.proofs.Common.{add-zero, zero-add, arith}
-use Rattle.std.proofs.lemmas.Bool.{cases_Bool, cases_lt, both_ways, or_parts, and_cases, and_parts}
-use Rattle.std.proofs.lemmas.Bool.{not-true}
+use Rattle.std.proofs.lemmas.Bool.{cases_Bool, cases_lt, both_ways, or_parts, and_cases}
 use Rattle.std.specs.List.{filter, flat_map, list_any, AllByRecursion}
 use Rattle.catalogue.specs.Entries.{Entry}
 use Rattle.query.specs.declared.pattern.TriplePattern.{TriplePattern}
-use Rattle.query.specs.Lawful.{mentions, in_two, shares, limited, lawful}
+use Rattle.query.specs.Lawful.{mentions, in_two, shares, lawful}
 use Rattle.query.specs.Limits.{variables}
 use Rattle.query.specs.Parts.{Part, Group}
 use Rattle.triples.specs.Meaning.{Meaning}
@@ -24,7 +23,7 @@ use Rattle.algebra.proofs.Rows.{answer_of}
 use Rattle.algebra.proofs.Lexical.{Less, lowest_from_kept}
 use Rattle.algebra.proofs.Listing.{fitting, or_itself, extended, rows_of, answers_of_from, answers_of}
 use Rattle.algebra.proofs.Fitting.{ascending-stored, all-fitting, ascending-fitting}
-use Rattle.algebra.proofs.Owners.{apart_from_shares}
+use Rattle.algebra.proofs.Owners.{apart_from_shares, list_any-shares}
 use Rattle.algebra.proofs.TotalOrder.{Ahead, ahead_from_lowest, ahead_from_later, before_from_ahead}
 use Rattle.algebra.proofs.TotalOrder.{before-never, precedes-never}
 use Rattle.algebra.proofs.Blocks.{in_blocks, Kept, Fitted, kept-self, some_from_kept, lowest_from_fitted}
@@ -183,8 +182,7 @@ module _ (m : Meaning) (e : ℕ → Entry) where
     ascending-numbered : (a : ℕ) (rows : List Row) → Ascending (Before (slice_index_or q a no_group)) rows
         → Ascending (Precedes q) (numbered a rows)
     ascending-numbered a rows h =
-        let of : Row → Answer = (answer_of a) in
-        ascending-map (Precedes q) of rows
+        ascending-map (Precedes q) (answer_of a) rows
         (ascending-weaker (Before (slice_index_or q a no_group)) (λ _. Unit {0})
         (λ r s. Precedes q (answer_of a r) (answer_of a s)) (λ r s _ _ b. inr (refl, b)) rows
         (all-every (λ _. Unit {0}) (λ _. tt) rows) h)
@@ -204,8 +202,7 @@ module _ (m : Meaning) (e : ℕ → Entry) where
         (subst (λ k. Ascending (Before k) (rows_of m e g)) (sym here) (ascending-rows_of m e g parts.0)))
         (ascending-answers_of_from (a + 1) gs
         (λ i. ap (λ j. slice_index_or q j no_group) (omega arith) ∙ is (suc i)) parts.1)
-        (all-map (λ x. AllByRecursion (Precedes q x) later) (answer_of a)
-        (rows_of m e g)
+        (all-map (λ x. AllByRecursion (Precedes q x) later) (answer_of a) (rows_of m e g)
         (all-every (λ r. AllByRecursion (Precedes q (answer_of a r)) later)
         (λ r. all-weaker (λ x. a + 1 ≤ x.alternative) (Precedes q (answer_of a r))
         (λ x l. inl (omega (arith, l))) later (all-answers_of_from (a + 1) gs))
@@ -215,11 +212,11 @@ pub listing_ascends : (m : Meaning) (e : ℕ → Entry) (q : List Group) → law
     → Ascending (Precedes q) (answers_of m e q)
 listing_ascends m e q h =
     ascending-answers_of_from m e q 0 q (λ i. ap (λ j. slice_index_or q j no_group) (zero-add i))
-    (not-true (list_any shares q) (and_parts (limited q) (not (list_any shares q)) h).1)
+    (list_any-shares q h)
 
 -- no answer is listed twice
 pub listing_once : (m : Meaning) (e : ℕ → Entry) (q : List Group) → lawful q ≡ true → (a : Answer)
     → times_answered a (answers_of m e q) ≤ 1
 listing_once m e q h a =
-    count_by-ascending (Precedes q) same_answer
-    equal_from_same_answer (precedes-never q) a (answers_of m e q) (listing_ascends m e q h)
+    count_by-ascending (Precedes q) same_answer equal_from_same_answer (precedes-never q) a (answers_of m e q)
+    (listing_ascends m e q h)

@@ -1,14 +1,16 @@
--- To which part of an alternative a variable belongs. Assumes nothing.
+-- To which part of an alternative a variable belongs, and that none is in two blocks that the required
+-- triples lack. Assumes nothing.
+--     block_at g i      the block number i of the alternative g
 use Rattle.std.proofs.Common.{◌≡◌, ℕ, zero, suc, ◌+◌, ◌<◌, ◌≤◌, Bool, true, false, not, ◌&&◌, ◌⊎◌, List, []}
 use Rattle.std.proofs.Common.{◌∷◌, map, length, get_or, Some, Option, sym, ap, ◌∙◌, subst, inl, inr, ⊎_elim}
 use Rattle.std.proofs.Common.{arith}
 use Rattle.std.proofs.Math.ListN.{length-map, get_or-map}
-use Rattle.std.proofs.lemmas.Bool.{false_from_ne_true, cases_Bool, both_ways, cases_lt, cond-true, cond-false}
-use Rattle.std.proofs.lemmas.Bool.{and_from, or_left, or_right, not_from_false}
+use Rattle.std.proofs.lemmas.Bool.{and_parts, not-true, false_from_ne_true, cases_Bool, both_ways, cases_lt}
+use Rattle.std.proofs.lemmas.Bool.{cond-true, cond-false, and_from, or_left, or_right, not_from_false}
 use Rattle.std.proofs.lemmas.List.Folds.{list_any_at}
 use Rattle.std.specs.List.{list_any}
+use Rattle.query.specs.Lawful.{limited, lawful, in_two, mentions, shares}
 use Rattle.query.specs.declared.pattern.TriplePattern.{TriplePattern}
-use Rattle.query.specs.Lawful.{in_two, mentions, shares}
 use Rattle.query.specs.Limits.{variables}
 use Rattle.query.specs.Parts.{Part, Group}
 use Rattle.query.proofs.Lawful.{shares_decides}
@@ -102,6 +104,9 @@ held_from_block g i v h =
       f,
     ))
     (cases_Bool (mentions v g.required))
+
+pub list_any-shares : (q : List Group) → lawful q ≡ true → list_any shares q ≡ false
+list_any-shares q h = not-true (list_any shares q) (and_parts (limited q) (not (list_any shares q)) h).1
 
 -- no variable that the required triples lack is in two blocks
 pub apart_from_shares : (g : Group) → shares g ≡ false → (v : ℕ) → v < variables

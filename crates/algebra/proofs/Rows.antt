@@ -2,7 +2,8 @@
 -- among rows. Assumes nothing.
 use Rattle.std.proofs.Common.{◌≡◌, ℕ, ◌<◌, ◌≤◌, true, false, not, List, length, refl, sym, ap, ◌∙◌, subst}
 use Rattle.std.proofs.Common.{⊎_elim, arith, Decides, eqb, ap₂, map}
-use Rattle.std.proofs.lemmas.Bool.{cases_eq, cases_lt, eqb-true, false≢true, ne_eqb, eq-eqb, and_parts}
+use Rattle.std.proofs.lemmas.Bool.{not-false, cases_lt, eqb-true, ne_eqb, eq-eqb}
+use Rattle.std.proofs.lemmas.Bool.{and_parts}
 use Rattle.std.proofs.lemmas.List.{get_or-set_same, get_or-set_other, length-set, ext_get_or, get_or_past}
 use Rattle.std.proofs.lemmas.List.{length-replicate, get_or-replicate}
 use Rattle.std.proofs.lemmas.List.FromFn.{get_or-map-range_with_len}
@@ -57,10 +58,7 @@ row_from_values r s long same = ext_get_or none r s long (λ v _. same v)
 -- has_value
 
 pub none_from_has_value : (r : Row) (v : ℕ) → has_value r v ≡ false → value r v ≡ 0
-none_from_has_value r v h =
-    ⊎_elim (λ e. e)
-    (λ n. let test = ne_eqb (value r v) 0 n in absurd (false≢true (sym h ∙ ap not test)))
-    (cases_eq (value r v) 0)
+none_from_has_value r v h = eqb-true (value r v) 0 (not-false (eqb (value r v) 0) h)
 
 pub has_value-none : (r : Row) (v : ℕ) → value r v ≡ 0 → has_value r v ≡ false
 has_value-none r v e = ap not (eq-eqb (value r v) 0 e)
@@ -84,8 +82,7 @@ abbrev pub answer_of : ℕ → Row → Answer
 answer_of a r = record { alternative = a; row = r }
 
 pub answer_from_parts : (a b : Answer) → a.alternative ≡ b.alternative → a.row ≡ b.row → a ≡ b
-answer_from_parts a b number row =
-    ap₂ answer_of number row
+answer_from_parts a b number row = ap₂ answer_of number row
 
 pub equal_from_same_answer : (a b : Answer) → same_answer a b ≡ true → a ≡ b
 equal_from_same_answer a b h =

@@ -1,11 +1,11 @@
 -- The solutions of an alternative in words. Assumes nothing.
-use Rattle.std.proofs.Common.{◌≡◌, ℕ, ◌<◌, true, false, cond, not, List, length, get_or, sym, ◌∙◌, subst}
+use Rattle.std.proofs.Common.{◌≡◌, ℕ, ◌<◌, true, false, cond, List, length, get_or, sym, ◌∙◌, subst}
 use Rattle.std.proofs.Common.{arith}
-use Rattle.std.proofs.lemmas.Bool.{and_parts, not-true, both_ways, false_from_ne_true}
+use Rattle.std.proofs.lemmas.Bool.{both_ways, false_from_ne_true}
 use Rattle.std.proofs.lemmas.List.Folds.{list_any_at}
 use Rattle.std.specs.List.{list_any}
 use Rattle.catalogue.specs.Entries.{Entry}
-use Rattle.query.specs.Lawful.{lawful, limited, shares}
+use Rattle.query.specs.Lawful.{lawful, shares}
 use Rattle.query.specs.Parts.{Group}
 use Rattle.triples.specs.Meaning.{Meaning, Sound}
 use Rattle.filter.specs.Rows.{Row}
@@ -15,6 +15,7 @@ use Rattle.algebra.specs.Theorems.{SolutionsInWords}
 use Rattle.algebra.proofs.Lists.{count_by-total}
 use Rattle.algebra.proofs.Listing.{rows_of}
 use Rattle.algebra.proofs.Counts.{total-solutions}
+use Rattle.algebra.proofs.Owners.{list_any-shares}
 use Rattle.algebra.proofs.ListingOrder.{rows_once}
 use Rattle.algebra.proofs.ToWords.{words_from_listed}
 use Rattle.algebra.proofs.FromWords.{listed_from_words}
@@ -23,9 +24,8 @@ use Rattle.algebra.proofs.FromWords.{listed_from_words}
 shares-lawful : (q : List Group) (a : ℕ) → lawful q ≡ true → a < length q
     → shares (get_or q a no_group) ≡ false
 shares-lawful q a h low =
-    let apart = not-true (list_any shares q) ((and_parts (limited q) (not (list_any shares q)) h).1) in
     false_from_ne_true (shares (get_or q a no_group))
-    (λ t. both_ways (list_any shares q) apart (list_any_at shares q a no_group low t))
+    (λ t. both_ways (list_any shares q) (list_any-shares q h) (list_any_at shares q a no_group low t))
 
 -- a row is a solution of an alternative as often as it is listed for it
 times-solutions : (m : Meaning) (e : ℕ → Entry) (g : Group) (r : Row)
