@@ -26,7 +26,7 @@ use Rattle.algebra.proofs.Completions.{kept_from_completes, all-completions}
 use Rattle.algebra.proofs.Listing.{fitting, or_itself, extended, rows_of, answers_of_from, answers_of}
 use Rattle.algebra.proofs.Fitting.{completes_from_stored}
 use Rattle.algebra.proofs.Cardinalities.{total-alike, list_all-alike}
-use Rattle.algebra.proofs.Joins.{Valid, merges, join-pattern, stored_from_merges}
+use Rattle.algebra.proofs.Joins.{Valid, merges, as_often-merges, stored_from_merges}
 
 -- Valid
 
@@ -120,7 +120,7 @@ module _ (m : Meaning) (test : Row → Bool) (ts : List TriplePattern) (left : L
       total-filter w test (join left (bgp m ts))
       ∙ total-flat_map passing (merges m ts) left
       ∙ total-same _ _ left
-      (all-weaker _ _ (λ r h. total-alike passing (merges m ts r) (found r) (join-pattern m ts r h)
+      (all-weaker _ _ (λ r h. total-alike passing (merges m ts r) (found r) (as_often-merges m ts r h)
       ∙ sym (total-filter w test (found r))) left valid)
       ∙ sym (total-flat_map w (fitting m test ts) left)
 
@@ -128,7 +128,7 @@ module _ (m : Meaning) (test : Row → Bool) (ts : List TriplePattern) (left : L
   diff-bgp =
       filter-same _ _ left
       (all-weaker _ _ (λ r h. list_all-partners test r (bgp m ts)
-      ∙ list_all-alike (λ s. not (test s)) (merges m ts r) (found r) (join-pattern m ts r h)
+      ∙ list_all-alike (λ s. not (test s)) (merges m ts r) (found r) (as_often-merges m ts r h)
       ∙ list_all-vacant test (found r)) left valid)
 
   -- a left join with a basic pattern counts as each row's fits, or where it has none the row itself

@@ -177,8 +177,8 @@ module _ (m : Meaning) (ts : List TriplePattern) (r : Row) (valid : Valid m.top 
       omega (arith, count_by-map (same_row s) (merge r) solutions, most, fewer)
 
   -- the merges of the row with the solutions of a basic pattern are its completions that are in the store
-  pub join-pattern : AsOften (merges m ts r) (filter (stored m ts) (completions m.top ts r))
-  join-pattern =
+  pub as_often-merges : AsOften (merges m ts r) (filter (stored m ts) (completions m.top ts r))
+  as_often-merges =
       as_often_from_members (merges m ts r) (filter (stored m ts) (completions m.top ts r)) merges-once
       (times-ascending (open_variables ts r) (filter (stored m ts) (completions m.top ts r))
       (ascending-stored m ts r valid.long))
