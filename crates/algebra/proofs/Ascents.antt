@@ -1,13 +1,15 @@
 -- Laws of lists that ascend: ++, filter, map, flat_map, ranges, and how often an element stands in one.
 -- Assumes nothing.
-use Rattle.std.proofs.Common.{◌≡◌, ℕ, zero, suc, ◌+◌, ◌<◌, ◌≤◌, Bool, true, false, cond, List, [], ◌∷◌, ◌++◌}
-use Rattle.std.proofs.Common.{map, sym, subst, ⊎_elim, arith, count_by}
-use Rattle.std.proofs.lemmas.Bool.{cases_Bool, cond-true, cond-false, false_from_ne_true}
-use Rattle.std.proofs.lemmas.List.Sums.{sum_by-cons}
+use Rattle.std.proofs.Common.{◌≡◌, ℕ, zero, suc, ◌+◌, ◌<◌, ◌≤◌, Bool, true, false, List, [], ◌∷◌, ◌++◌, map}
+use Rattle.std.proofs.Common.{refl, sym, ap, ◌∙◌, subst, ⊎_elim, arith, count_by, not, ◌&&◌, ◌≢◌, eqb}
+use Rattle.std.proofs.Math.Bool.{and-true}
+use Rattle.std.proofs.lemmas.Bool.{cases_Bool, cases_eq, false_from_ne_true, and_right, eq-eqb, ne_eqb}
 use Rattle.std.specs.List.{filter, flat_map, range_with_len, AllByRecursion}
 use Rattle.algebra.specs.Order.{Ascending}
-use Rattle.algebra.proofs.Rows.{all-range}
 use Rattle.algebra.proofs.Lists.{filter-yes, filter-no, all-append, all-weaker, all-filter, all-map}
+use Rattle.algebra.proofs.Lists.{count_by-yes, count_by-no, count_by-none, filter-like, filter-filter}
+use Rattle.algebra.proofs.Lists.{filter-all}
+use Rattle.algebra.proofs.Ranges.{all-range}
 
 module _ {A : Type 0} (R : A → A → Type 0) where
   -- ++
@@ -25,7 +27,7 @@ module _ {A : Type 0} (R : A → A → Type 0) where
   ascending-filter p (x ∷ xs) h =
       ⊎_elim
       (λ t. subst (Ascending R) (sym (filter-yes p x xs t))
-      (all-filter (R x) (R x) p (λ _ r _. r) xs h.0, ascending-filter p xs h.1))
+      (all-filter (R x) p xs h.0, ascending-filter p xs h.1))
       (λ f. subst (Ascending R) (sym (filter-no p x xs f)) (ascending-filter p xs h.1))
       (cases_Bool (p x))
 
@@ -82,36 +84,37 @@ ascending-range a (suc n) = (
   ascending-range (a + 1) n,
 )
 
+-- what ascends, and passes p, begins with v: what passes a test q that differs at v alone, and there fails,
+-- is the rest
+pub filter-rest : (p q : ℕ → Bool) (xs : List ℕ) (v : ℕ) (vs : List ℕ) → Ascending (λ x y. x < y) xs
+    → filter p xs ≡ v ∷ vs → ((w : ℕ) → w ≢ v → p w ≡ q w) → q v ≡ false → filter q xs ≡ vs
+filter-rest p q xs v vs up e same off =
+    let other = λ (w : ℕ). not (eqb w v) in
+    let rest = subst (Ascending (λ x y. x < y)) e (ascending-filter (λ x y. x < y) p xs up) in
+    filter-like q (λ w. p w && other w)
+    (λ w. ⊎_elim
+    (λ is. ap q is ∙ off ∙ sym (and_right (p w) (other w) (ap not (eq-eqb w v is))))
+    (λ ne. sym (same w ne) ∙ sym (and-true (p w)) ∙ ap (λ b. p w && b) (sym (ap not (ne_eqb w v ne))))
+    (cases_eq w v))
+    xs
+    ∙ sym (filter-filter other p xs)
+    ∙ ap (filter other) e
+    ∙ filter-no other v vs (ap not (eq-eqb v v refl))
+    ∙ filter-all other vs (all-weaker (λ w. v < w) (λ w. other w ≡ true)
+    (λ w l. ap not (ne_eqb w v (λ z. omega (arith, l, z)))) vs rest.0)
+
 -- how often an element stands in a list that ascends in an order in which nothing is before itself
 
 module _ {A : Type 0} (R : A → A → Type 0) (same : A → A → Bool)
     (equal : (x y : A) → same x y ≡ true → x ≡ y) (never : (x : A) → R x x → ⊥) (a : A) where
-  count-later : (xs : List A) → AllByRecursion (R a) xs → count_by (same a) xs ≤ 0
-  count-later [] h = omega arith
-  count-later (x ∷ xs) h =
-      let other : same a x ≡ false =
-      false_from_ne_true (same a x) (λ t. never a (subst (R a) (sym (equal a x t)) h.0)) in
-      omega (
-        arith,
-        sum_by-cons (λ y. cond (same a y) 1 0) x xs,
-        cond-false {A = ℕ} (same a x) 1 0 other,
-        count-later xs h.1,
-      )
-
-  pub ascending-once : (xs : List A) → Ascending R xs → count_by (same a) xs ≤ 1
-  ascending-once [] h = omega arith
-  ascending-once (x ∷ xs) h =
+  pub count_by-ascending : (xs : List A) → Ascending R xs → count_by (same a) xs ≤ 1
+  count_by-ascending [] h = omega arith
+  count_by-ascending (x ∷ xs) h =
       ⊎_elim
-      (λ t. omega (
-        arith,
-        sum_by-cons (λ y. cond (same a y) 1 0) x xs,
-        cond-true {A = ℕ} (same a x) 1 0 t,
-        count-later xs (subst (λ y. AllByRecursion (R y) xs) (sym (equal a x t)) h.0),
-      ))
-      (λ f. omega (
-        arith,
-        sum_by-cons (λ y. cond (same a y) 1 0) x xs,
-        cond-false {A = ℕ} (same a x) 1 0 f,
-        ascending-once xs h.1,
-      ))
+      (λ t. let later = count_by-none (same a) xs (all-weaker (R x) (λ y. same a y ≡ false)
+      (λ y l. false_from_ne_true (same a y)
+      (λ w. never y (subst (λ z. R z y) (sym (equal a x t) ∙ equal a y w) l)))
+      xs h.0) in
+      omega (arith, count_by-yes (same a) x xs t, later))
+      (λ f. omega (arith, count_by-no (same a) x xs f, count_by-ascending xs h.1))
       (cases_Bool (same a x))

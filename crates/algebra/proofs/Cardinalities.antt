@@ -1,7 +1,7 @@
 -- How often a row occurs in what the operators make, and that nothing but counts matters to them. Assumes
 -- nothing.
-use Rattle.std.proofs.Common.{◌≡◌, ℕ, ◌+◌, ◌<◌, Bool, true, false, cond, not, ◌&&◌, ◌||◌, List, [], ◌∷◌}
-use Rattle.std.proofs.Common.{◌++◌, map, eqb, refl, sym, ap, ap₂, ◌∙◌, arith, ⊎_elim}
+use Rattle.std.proofs.Common.{◌≡◌, ℕ, ◌+◌, ◌<◌, Bool, true, false, cond, not, ◌&&◌, ◌||◌, List, [], ◌∷◌, ◌++◌}
+use Rattle.std.proofs.Common.{map, eqb, refl, sym, ap, ap₂, ◌∙◌, arith, ⊎_elim}
 use Rattle.std.proofs.lemmas.Bool.{cases_Bool, cond-true, cond-false, ne_eqb}
 use Rattle.std.specs.List.{filter, list_all}
 use Rattle.query.specs.Lawful.{total}
@@ -9,21 +9,15 @@ use Rattle.filter.specs.Rows.{Row}
 use Rattle.algebra.specs.Algebra.{compatible, merge, join, diff}
 use Rattle.algebra.specs.Answers.{same_row, times}
 use Rattle.algebra.specs.Theorems.{CountedAsDefined, AsOften, OnlyCountsMatter}
-use Rattle.algebra.proofs.Lists.{all-every, total-append, total-flat_map, total-map, total-filter, total-like}
-use Rattle.algebra.proofs.Lists.{total-zero}
-use Rattle.algebra.proofs.Merging.{cond-same}
-use Rattle.algebra.proofs.Rows.{same_row-true, same_row-refl, times-total}
+use Rattle.algebra.proofs.Lists.{total-flat_map, total-map, total-filter, total-like, total-cond, cond-same}
+use Rattle.algebra.proofs.Lists.{count_by-append, count_by-total}
+use Rattle.algebra.proofs.Rows.{equal_from_same_row, same_row-refl}
 
 -- what the row s counts for r
 abbrev one : Row → Row → ℕ
 one r s = cond (same_row r s) 1 0
 
 -- cond
-
-total-cond : (b : Bool) (w : Row → ℕ) (rows : List Row)
-    → total (λ s. cond b (w s) 0) rows ≡ cond b (total w rows) 0
-total-cond true w rows = refl
-total-cond false w rows = total-zero (λ _. 0) rows (all-every _ (λ _. refl) rows)
 
 cond-and : (a b : Bool) → ◌≡◌ {A = ℕ} (cond a (cond b 1 0) 0) (cond (a && b) 1 0)
 cond-and true b = refl
@@ -35,7 +29,7 @@ cond-and false b = refl
 one-filtered : (test : Row → Bool) (r s : Row) → cond (test s) (one r s) 0 ≡ cond (test r) (one r s) 0
 one-filtered test r s =
     ⊎_elim
-    (λ e. ap (λ t. cond (test t) (one r s) 0) (sym (same_row-true r s e)))
+    (λ e. ap (λ t. cond (test t) (one r s) 0) (sym (equal_from_same_row r s e)))
     (λ f. ap (λ b. cond (test s) (cond b 1 0) 0) f
     ∙ cond-same (test s) 0 ∙ sym (cond-same (test r) 0)
     ∙ ap (λ b. cond (test r) (cond b 1 0) 0) (sym f))
@@ -44,23 +38,11 @@ one-filtered test r s =
 pub times-filter : (test : Row → Bool) (rows : List Row) (r : Row)
     → times r (filter test rows) ≡ cond (test r) (times r rows) 0
 times-filter test rows r =
-    times-total r (filter test rows)
+    count_by-total (same_row r) (filter test rows)
     ∙ total-filter (one r) test rows
     ∙ total-like _ _ (one-filtered test r) rows
     ∙ total-cond (test r) (one r) rows
-    ∙ ap (λ n. cond (test r) n 0) (sym (times-total r rows))
-
--- ++
-
-pub times-append : (left right : List Row) (r : Row) → times r (left ++ right) ≡ times r left + times r right
-times-append left right r =
-    omega (
-      arith,
-      times-total r (left ++ right),
-      total-append (one r) left right,
-      times-total r left,
-      times-total r right,
-    )
+    ∙ ap (λ n. cond (test r) n 0) (sym (count_by-total (same_row r) rows))
 
 -- join
 
@@ -80,7 +62,7 @@ times-join : (left right : List Row) (r : Row)
     → times r (join left right)
     ≡ total (λ s. total (λ t. cond (compatible s t && same_row r (merge s t)) 1 0) right) left
 times-join left right r =
-    times-total r (join left right)
+    count_by-total (same_row r) (join left right)
     ∙ total-join (one r) left right
     ∙ total-like _ _
     (λ s. total-like _ _ (λ t. cond-and (compatible s t) (same_row r (merge s t))) right)
@@ -90,10 +72,10 @@ times-join left right r =
 pub counted_as_defined : CountedAsDefined
 counted_as_defined test left right r = record {
   filtered = times-filter test left r;
-  united = times-append left right r;
+  united = count_by-append (same_row r) left right;
   joined = times-join left right r;
   lacking = times-filter (λ s. list_all (λ t. not (compatible s t) || not (test (merge s t))) right) left r;
-  left_joined = times-append (filter test (join left right)) (diff test left right) r;
+  left_joined = count_by-append (same_row r) (filter test (join left right)) (diff test left right);
 }
 
 -- only counts matter
@@ -109,7 +91,7 @@ total-without : (w : Row → ℕ) (r : Row) (rows : List Row) → 0 < total (one
 total-without w r [] some = absurd (omega arith)
 total-without w r (s ∷ rows) some =
     ⊎_elim
-    (λ e. ap (λ t. w t + total w rows) (sym (same_row-true r s e))
+    (λ e. ap (λ t. w t + total w rows) (sym (equal_from_same_row r s e))
     ∙ ap (λ l. w r + total w l) (sym (cond-true (same_row r s) rows (s ∷ without r rows) e)))
     (λ f. let less : one r s ≡ 0 = cond-false (same_row r s) 1 0 f in
     let rest = total-without w r rows (omega (arith, some, less)) in
@@ -131,9 +113,10 @@ total-as_often w (r ∷ rows) others same =
     (λ s. omega (arith, same s, total-without (one s) r others some)) in
     omega (arith, rest, total-without w r others some)
 
-total-alike : (w : Row → ℕ) (rows others : List Row) → AsOften rows others → total w rows ≡ total w others
+pub total-alike : (w : Row → ℕ) (rows others : List Row) → AsOften rows others → total w rows ≡ total w others
 total-alike w rows others same =
-    total-as_often w rows others (λ r. sym (times-total r rows) ∙ same r ∙ times-total r others)
+    total-as_often w rows others
+    (λ r. sym (count_by-total (same_row r) rows) ∙ same r ∙ count_by-total (same_row r) others)
 
 -- what a row that fails the test counts
 abbrev failing : (Row → Bool) → Row → ℕ
@@ -152,7 +135,7 @@ list_all-total p (s ∷ rows) =
     ap (λ b. b && list_all p rows) f ∙ sym (ne_eqb (failing p s + rest) 0 (λ z. omega (arith, z, some))))
     (cases_Bool (p s))
 
-list_all-alike : (p : Row → Bool) (rows others : List Row) → AsOften rows others
+pub list_all-alike : (p : Row → Bool) (rows others : List Row) → AsOften rows others
     → list_all p rows ≡ list_all p others
 list_all-alike p rows others same =
     list_all-total p rows
@@ -167,18 +150,18 @@ filter-alike test rows others same r =
 append-alike : (left right other_left other_right : List Row) → AsOften left other_left
     → AsOften right other_right → AsOften (left ++ right) (other_left ++ other_right)
 append-alike left right other_left other_right lefts rights r =
-    times-append left right r ∙ ap₂ (λ n k. n + k) (lefts r) (rights r)
-    ∙ sym (times-append other_left other_right r)
+    count_by-append (same_row r) left right ∙ ap₂ (λ n k. n + k) (lefts r) (rights r)
+    ∙ sym (count_by-append (same_row r) other_left other_right)
 
 join-alike : (left right other_left other_right : List Row) → AsOften left other_left
     → AsOften right other_right → AsOften (join left right) (join other_left other_right)
 join-alike left right other_left other_right lefts rights r =
-    times-total r (join left right)
+    count_by-total (same_row r) (join left right)
     ∙ total-join (one r) left right
     ∙ total-like _ _ (λ s. total-alike (pair (one r) s) right other_right rights) left
     ∙ total-alike (λ s. total (pair (one r) s) other_right) left other_left lefts
     ∙ sym (total-join (one r) other_left other_right)
-    ∙ sym (times-total r (join other_left other_right))
+    ∙ sym (count_by-total (same_row r) (join other_left other_right))
 
 diff-alike : (test : Row → Bool) (left right other_left other_right : List Row) → AsOften left other_left
     → AsOften right other_right → AsOften (diff test left right) (diff test other_left other_right)

@@ -8,9 +8,9 @@ use Rattle.triples.specs.Meaning.{Meaning}
 use Rattle.algebra.specs.Answers.{Answer, times_answered}
 use Rattle.algebra.specs.Order.{Precedes, Ascending}
 use Rattle.algebra.specs.Theorems.{WalkListsAnswers}
-use Rattle.algebra.proofs.Counts.{listing_counts}
-use Rattle.algebra.proofs.Ordered.{listing_ascends, listing_once}
 use Rattle.algebra.proofs.Walks.{walk_is_answers}
+use Rattle.algebra.proofs.Counts.{listing_counts}
+use Rattle.algebra.proofs.ListingOrder.{listing_ascends, listing_once}
 
 pub walk_lists_answers : (m : Meaning) (e : ℕ → Entry) (q : List Group) → lawful q ≡ true
     → WalkListsAnswers m e q

@@ -2,14 +2,14 @@
 use Rattle.std.proofs.Common.{◌≡◌, true, List, [], ◌∷◌, None, refl, subst, ⊎_elim, sym}
 use Rattle.std.proofs.lemmas.Bool.{or_cases, true≢false, false≢true}
 use Rattle.std.specs.List.{AllByRecursion}
+use Rattle.varint.specs.Encode.{encode}
+use Rattle.varint.specs.Decode.{decode}
+use Rattle.query.specs.Grammar.{verdict}
 use Rattle.triples.specs.declared.triple.Triple.{Triple}
 use Rattle.triples.specs.Meaning.{among}
 use Rattle.triples.specs.Order.{same}
 use Rattle.triples.specs.Seeks.{Candidate, Sought}
 use Rattle.triples.proofs.Order.{same_is}
-use Rattle.varint.specs.Encode.{encode}
-use Rattle.varint.specs.Decode.{decode}
-use Rattle.query.specs.Grammar.{verdict}
 use Rattle.algebra.specs.Deliveries.{triple, selector, deliveries}
 use Rattle.algebra.specs.Examples.{WorkedExamples}
 
@@ -30,6 +30,7 @@ none_behind t c =
     (λ c. true≢false c.reached, (λ c. true≢false c.reached, (λ c. false≢true c.fit, tt)))
     t c.held c
 
+-- each computes, but that no triple of three is left behind the last, which is asked of each
 pub examples_hold : WorkedExamples
 unfolding encode decode verdict
 examples_hold = record {

@@ -1,271 +1,185 @@
 -- The join of a row with a basic graph pattern: its merges are the completions of the row that are in the
--- store, in the same order. Assumes nothing.
---     Valid top r     r has sixteen values, each none or a term from 1 to top
-use Rattle.std.proofs.Common.{◌≡◌, ℕ, zero, suc, ◌+◌, ◌<◌, ◌≤◌, ◌≢◌, Bool, true, false, cond, not, ◌&&◌}
-use Rattle.std.proofs.Common.{List, [], ◌∷◌, ◌++◌, map, length, refl, sym, ap, ◌∙◌, arith}
-use Rattle.std.proofs.Common.{⊎_elim, true≢false, replicate, append-nil, subst, eq-eqb, ne_eqb}
-use Rattle.std.proofs.lemmas.Bool.{and_left, and_right, and_from, cases_Bool, cases_eq, cases_lt, cond-false}
-use Rattle.std.specs.List.{filter, flat_map, range_with_len}
+-- store, each as often. Each is there once, so that it is enough that the two have the same members. Assumes
+-- nothing.
+--     Valid top r       r has sixteen values, each none or a term from 1 to top
+--     merges m ts r     the merges of r with the compatible solutions of ts
+use Rattle.std.proofs.Common.{◌≡◌, ℕ, ◌≤◌, true, false, List, map, length, sym, ap, ◌∙◌, arith, ⊎_elim, subst}
+use Rattle.std.proofs.Common.{inl, inr}
+use Rattle.std.proofs.lemmas.Bool.{cases_Bool, cases_eq, cases_lt}
+use Rattle.std.specs.List.{filter}
 use Rattle.query.specs.declared.pattern.TriplePattern.{TriplePattern}
 use Rattle.query.specs.Lawful.{mentions}
 use Rattle.query.specs.Limits.{variables}
-use Rattle.triples.specs.Meaning.{Meaning}
-use Rattle.filter.specs.Rows.{Row, none, value, has_value}
-use Rattle.algebra.specs.Patterns.{blank, with_value, stored, open_variables, terms, assignments, completions}
-use Rattle.algebra.specs.Algebra.{bgp, agree, compatible, merge}
-use Rattle.algebra.proofs.Lists.{filter-yes, filter-no, filter-flat_map, flat_map-same, map-flat_map}
-use Rattle.algebra.proofs.Lists.{all-weaker}
-use Rattle.algebra.proofs.Rows.{value-with_same, value-with_other, length-with_value, value-past, value-blank}
-use Rattle.algebra.proofs.Rows.{length-blank, has_value-yes, has_value-no, all-range}
-use Rattle.algebra.proofs.Patterns.{stored-same, open_variables-blank}
-use Rattle.algebra.proofs.Merging.{cond-same, agree-none, agree-values, compatible-with_value}
-use Rattle.algebra.proofs.Merging.{compatible-none, merge-none, merge-free, merge-bound, length-merge}
-use Rattle.algebra.proofs.Merging.{value-merge}
+use Rattle.triples.specs.Meaning.{Meaning, Term}
+use Rattle.filter.specs.Rows.{Row, none, value}
+use Rattle.algebra.specs.Patterns.{blank, stored, open_variables, completions}
+use Rattle.algebra.specs.Algebra.{bgp, compatible, either, merge}
+use Rattle.algebra.specs.Answers.{same_row, times}
+use Rattle.algebra.specs.Admissions.{Completes}
+use Rattle.algebra.specs.Theorems.{AsOften}
+use Rattle.algebra.proofs.Lists.{count_by-map, count_by-weaker}
+use Rattle.algebra.proofs.Members.{Member, all_from_members, member-filter, member_from_filter, member-map}
+use Rattle.algebra.proofs.Members.{member_from_map}
+use Rattle.algebra.proofs.Ascents.{ascending-filter}
+use Rattle.algebra.proofs.Rows.{equal_past, value-blank, length-blank, row_from_values, same_row_decides}
+use Rattle.algebra.proofs.Rows.{equal_from_same_row, times_from_member, member_from_times}
+use Rattle.algebra.proofs.Patterns.{stored-same, lent, length-lent, value-lent_own, value-lent_other}
+use Rattle.algebra.proofs.Lexical.{Less, times-ascending}
+use Rattle.algebra.proofs.Fitting.{ascending-stored, completes_from_stored, member-stored}
+use Rattle.algebra.proofs.Merging.{agree-none, agree-with_none, agree-same, either-bound, either-none}
+use Rattle.algebra.proofs.Merging.{either-second, agree_from_compatible, compatible_from_values, value-merge}
+use Rattle.algebra.proofs.Merging.{length-merge}
 
 -- the row has sixteen values, each none or a term from 1 to the top
 pub record Valid (top : ℕ) (r : Row) : Type 0 where
   pub long : length r ≡ variables
   pub small : (v : ℕ) → value r v ≤ top
 
--- flat_map over numbers
+-- the merges of the row with the solutions of the patterns that are compatible with it
+abbrev pub merges : Meaning → List TriplePattern → Row → List Row
+merges m ts r = map (merge r) (filter (compatible r) (bgp m ts))
 
-module _ {A : Type 0} where
-  flat_map-nothing : (f : ℕ → List A) (a n : ℕ) → ((x : ℕ) → a ≤ x → f x ≡ [])
-      → flat_map f (range_with_len a n) ≡ []
-  flat_map-nothing f a zero h = refl
-  flat_map-nothing f a (suc n) h =
-      ap (λ l. l ++ flat_map f (range_with_len (a + 1) n)) (h a (omega arith))
-      ∙ flat_map-nothing f (a + 1) n (λ x l. h x (omega arith))
+-- lists that have the same rows, each once, have each as often
+as_often_from_members : (xs ys : List Row) → ((r : Row) → times r xs ≤ 1) → ((r : Row) → times r ys ≤ 1)
+    → ((r : Row) → Member r xs → Member r ys) → ((r : Row) → Member r ys → Member r xs) → AsOften xs ys
+as_often_from_members xs ys one other to back r =
+    ⊎_elim
+    (λ some. omega (arith, some, one r, other r, times_from_member r ys (to r (member_from_times r xs some))))
+    (λ none_there. ⊎_elim
+    (λ some. omega (arith, none_there, times_from_member r xs (back r (member_from_times r ys some))))
+    (λ neither. omega (arith, none_there, neither))
+    (cases_lt 0 (times r ys)))
+    (cases_lt 0 (times r xs))
 
-  -- only one number of the range gives something
-  flat_map-one : (f : ℕ → List A) (y a n : ℕ) → a ≤ y → y < a + n → ((x : ℕ) → a ≤ x → x ≢ y → f x ≡ [])
-      → flat_map f (range_with_len a n) ≡ f y
-  flat_map-one f y a zero low high h = absurd (omega arith)
-  flat_map-one f y a (suc n) low high h =
-      ⊎_elim
-      (λ e. ap (λ l. f a ++ l) (flat_map-nothing f (a + 1) n (λ x l. h x (omega arith) (omega arith)))
-      ∙ append-nil (f a) ∙ ap f e)
-      (λ d. ap (λ l. l ++ flat_map f (range_with_len (a + 1) n)) (h a (omega arith) d)
-      ∙ flat_map-one f y (a + 1) n (omega arith) (omega arith) (λ x l. h x (omega arith)))
-      (cases_eq a y)
+module _ (m : Meaning) (ts : List TriplePattern) (r : Row) (valid : Valid m.top r) where
+  -- what a merge is: a completion in the store
 
-  flat_map-cond : (b : Bool) (f : ℕ → List A) (xs : List ℕ)
-      → flat_map (λ x. cond b (f x) []) xs ≡ cond b (flat_map f xs) []
-  flat_map-cond true f xs = refl
-  flat_map-cond false f [] = refl
-  flat_map-cond false f (x ∷ xs) = flat_map-cond false f xs
+  module _ (u : Row) (c : Completes m.top ts blank u) (fits : compatible r u ≡ true) where
+    long-merged : length (merge r u) ≡ variables
+    long-merged = length-merge r u (valid.long ∙ sym (c.long ∙ length-blank)) ∙ valid.long
 
--- the join of a row with a basic pattern
-
-module _ (m : Meaning) (ts : List TriplePattern) (r : Row) where
-  -- what the patterns make of s through the variables
-  abbrev held : List ℕ → Row → List Row
-  held vs s = filter (stored m ts) (assignments m.top vs s)
-
-  -- the merges of r with it
-  abbrev merged : List ℕ → Row → List Row
-  merged vs s = map (merge r) (filter (compatible r) (held vs s))
-
-  -- what the patterns make of the merge of r with s through the variables, if the two are compatible
-  abbrev completed : List ℕ → Row → List Row
-  completed vs s = cond (compatible r s) (held vs (merge r s)) []
-
-  -- the variable is in the patterns; and it has no value in r
-  abbrev named : ℕ → Bool
-  named v = mentions v ts
-
-  abbrev lacking : ℕ → Bool
-  lacking v = mentions v ts && not (has_value r v)
-
-  -- the variables that pass the test, of the n from a on
-  abbrev among : (ℕ → Bool) → ℕ → ℕ → List ℕ
-  among test a n = filter test (range_with_len a n)
-
-  -- merged
-
-  merged-each : (v : ℕ) (vs : List ℕ) (s : Row)
-      → merged (v ∷ vs) s ≡ flat_map (λ x. merged vs (with_value s v x)) (terms m.top)
-  merged-each v vs s =
-      let each = λ (x : ℕ). assignments m.top vs (with_value s v x) in
-      ap (λ l. map (merge r) (filter (compatible r) l)) (filter-flat_map (stored m ts) each (terms m.top))
-      ∙ ap (map (merge r)) (filter-flat_map (compatible r) (λ x. filter (stored m ts) (each x)) (terms m.top))
-      ∙ map-flat_map (merge r) (λ x. filter (compatible r) (filter (stored m ts) (each x))) (terms m.top)
-
-  map-cond : (b : Bool) (s : Row) → map (merge r) (cond b (s ∷ []) []) ≡ cond b (merge r s ∷ []) []
-  map-cond true s = refl
-  map-cond false s = refl
-
-  merged-none : (s : Row)
-      → merged [] s ≡ cond (compatible r s) (cond (stored m ts s) (merge r s ∷ []) []) []
-  merged-none s =
-      ⊎_elim
-      (λ t. ap (λ l. map (merge r) (filter (compatible r) l)) (filter-yes (stored m ts) s [] t)
-      ∙ map-cond (compatible r s) s
-      ∙ ap (λ b. cond (compatible r s) (cond b (merge r s ∷ []) []) []) (sym t))
-      (λ f. ap (λ l. map (merge r) (filter (compatible r) l)) (filter-no (stored m ts) s [] f)
-      ∙ sym (cond-same (compatible r s) [])
-      ∙ ap (λ b. cond (compatible r s) (cond b (merge r s ∷ []) []) []) (sym f))
-      (cases_Bool (stored m ts s))
-
-  -- s gives values to the variables of the patterns below a, and none from a on
-  record Begun (a : ℕ) (s : Row) : Type 0 where
-    long : length s ≡ length r
-    rest : (v : ℕ) → a ≤ v → value s v ≡ none
-    given : (v : ℕ) → mentions v ts ≡ true → v < a → value s v ≢ none
-
-  begun-past : (a : ℕ) (s : Row) → Begun a s → mentions a ts ≡ false → Begun (a + 1) s
-  begun-past a s b f = record {
-    long = b.long;
-    rest = λ v l. b.rest v (omega arith);
-    given = λ v h l. ⊎_elim
-        (λ e. absurd (true≢false (sym h ∙ ap (λ k. mentions k ts) e ∙ f)))
-        (λ d. b.given v h (omega arith))
-        (cases_eq v a);
-  }
-
-  begun-with_value : (a : ℕ) (s : Row) (x : ℕ) → Begun a s → a < length r → 1 ≤ x
-      → Begun (a + 1) (with_value s a x)
-  begun-with_value a s x b inside p = record {
-    long = length-with_value s a x ∙ b.long;
-    rest = λ v l. value-with_other s a x v (λ e. omega arith) ∙ b.rest v (omega arith);
-    given = λ v h l. ⊎_elim
-        (λ e z. let own = value-with_same s a x (omega (arith, b.long)) in
-        let there = ap (value (with_value s a x)) e in omega arith)
-        (λ d z. b.given v h (omega arith) (sym (value-with_other s a x v d) ∙ z))
-        (cases_eq v a);
-  }
-
-  -- the merge with a compatible row that has values for all variables of the patterns has those values
-  begun-values : (s : Row) → Begun (length r) s → compatible r s ≡ true → (v : ℕ) → mentions v ts ≡ true
-      → value (merge r s) v ≡ value s v
-  begun-values s b c v h =
-      ⊎_elim (λ l. value-merge r s v c (b.given v h l))
-      (λ g. value-past (merge r s) v (omega (arith, length-merge r s (sym b.long)))
-      ∙ sym (value-past s v (omega (arith, b.long))))
-      (cases_lt v (length r))
-
-  -- with no variable left
-  join-none : (s : Row) → Begun (length r) s → merged [] s ≡ completed [] s
-  join-none s b =
-      merged-none s
-      ∙ ⊎_elim
-      (λ c. ap (λ t. cond (compatible r s) (cond t (merge r s ∷ []) []) [])
-      (sym (stored-same m ts (merge r s) s (begun-values s b c))))
-      (λ f. cond-false (compatible r s) _ [] f ∙ sym (cond-false (compatible r s) _ [] f))
-      (cases_Bool (compatible r s))
-
-  module _ (small : (v : ℕ) → value r v ≤ m.top) where
-    -- a variable a, with n behind it for which the equation holds
-    module _ (a n : ℕ) (s : Row) (b : Begun a s) (inside : a < length r)
-        (more : (t : Row) → Begun (a + 1) t
-        → merged (among named (a + 1) n) t ≡ completed (among lacking (a + 1) n) t) where
-      -- s with a value for a, as the variables behind it make it
-      more-with_value : (x : ℕ) → 1 ≤ x
-          → merged (among named (a + 1) n) (with_value s a x)
-          ≡ cond (agree (value r a) x && compatible r s)
-          (held (among lacking (a + 1) n) (merge r (with_value s a x))) []
-      more-with_value x p =
-          more (with_value s a x) (begun-with_value a s x b inside p)
-          ∙ ap (λ c. cond c (held (among lacking (a + 1) n) (merge r (with_value s a x))) [])
-          (compatible-with_value r s a x (b.rest a (omega arith)))
-
-      -- a is in no pattern
-      join-past : mentions a ts ≡ false
-          → merged (among named a (suc n)) s ≡ completed (among lacking a (suc n)) s
-      join-past f =
-          let past = range_with_len (a + 1) n in
-          ap (λ vs. merged vs s) (filter-no named a past f)
-          ∙ more s (begun-past a s b f)
-          ∙ ap (λ vs. completed vs s) (sym (filter-no lacking a past (and_left (mentions a ts) _ f)))
-
-      -- a has a value in r, with which no other value agrees
-      bound-other : value r a ≢ none → (x : ℕ) → 1 ≤ x → x ≢ value r a
-          → merged (among named (a + 1) n) (with_value s a x) ≡ []
-      bound-other some x p d =
-          more-with_value x p
-          ∙ cond-false (agree (value r a) x && compatible r s) _ []
-          (and_left (agree (value r a) x) _
-          (agree-values (value r a) x some (λ z. omega arith) ∙ ne_eqb (value r a) x (λ z. d (sym z))))
-
-      bound-own : value r a ≢ none
-          → merged (among named (a + 1) n) (with_value s a (value r a))
-          ≡ completed (among lacking (a + 1) n) s
-      bound-own some =
-          let x = value r a in
-          let vs = among lacking (a + 1) n in
-          let same : agree x x ≡ true = agree-values x x some some ∙ eq-eqb x x refl in
-          more-with_value x (omega (arith, some))
-          ∙ ap (λ c. cond (c && compatible r s) (held vs (merge r (with_value s a x))) []) same
-          ∙ ap (λ t. cond (compatible r s) (held vs t) []) (merge-bound r s a x some)
-
-      join-bound : mentions a ts ≡ true → has_value r a ≡ true
-          → merged (among named a (suc n)) s ≡ completed (among lacking a (suc n)) s
-      join-bound h k =
-          let past = range_with_len (a + 1) n in
-          let has = has_value-yes r a k in
-          let some : value r a ≢ none = λ z. omega arith in
-          ap (λ vs. merged vs s) (filter-yes named a past h)
-          ∙ merged-each a (among named (a + 1) n) s
-          ∙ flat_map-one (λ x. merged (among named (a + 1) n) (with_value s a x)) (value r a) 1 m.top has
-          (omega (arith, small a)) (bound-other some)
-          ∙ bound-own some
-          ∙ ap (λ vs. completed vs s)
-          (sym (filter-no lacking a past (and_right (mentions a ts) _ (ap not k))))
-
-      -- a has no value in r, and agrees with each
-      free-with_value : value r a ≡ none → (x : ℕ) → 1 ≤ x
-          → merged (among named (a + 1) n) (with_value s a x)
-          ≡ cond (compatible r s) (held (among lacking (a + 1) n) (with_value (merge r s) a x)) []
-      free-with_value free x p =
-          let vs = among lacking (a + 1) n in
-          more-with_value x p
-          ∙ ap (λ c. cond (c && compatible r s) (held vs (merge r (with_value s a x))) [])
-          (agree-none (value r a) x free)
-          ∙ ap (λ t. cond (compatible r s) (held vs t) []) (merge-free r s a x (sym b.long) free)
-
-      join-free : mentions a ts ≡ true → has_value r a ≡ false
-          → merged (among named a (suc n)) s ≡ completed (among lacking a (suc n)) s
-      join-free h k =
-          let past = range_with_len (a + 1) n in
-          let vs = among lacking (a + 1) n in
-          let each = λ (x : ℕ). assignments m.top vs (with_value (merge r s) a x) in
-          ap (λ ws. merged ws s) (filter-yes named a past h)
-          ∙ merged-each a (among named (a + 1) n) s
-          ∙ flat_map-same (λ x. merged (among named (a + 1) n) (with_value s a x))
-          (λ x. cond (compatible r s) (filter (stored m ts) (each x)) []) (terms m.top)
-          (all-weaker _ _ (λ x l. free-with_value (has_value-no r a k) x l.0) (terms m.top)
-          (all-range 1 m.top))
-          ∙ flat_map-cond (compatible r s) (λ x. filter (stored m ts) (each x)) (terms m.top)
-          ∙ ap (λ l. cond (compatible r s) l []) (sym (filter-flat_map (stored m ts) each (terms m.top)))
-          ∙ ap (λ ws. completed ws s) (sym (filter-yes lacking a past (and_from _ _ h (ap not k))))
-
-    -- through the variables from a on
-    join-from : (n a : ℕ) (s : Row) → a + n ≡ length r → Begun a s
-        → merged (among named a n) s ≡ completed (among lacking a n) s
-    join-from zero a s e b =
-        let last : a ≡ length r = omega arith in
-        join-none s (subst (λ k. Begun k s) last b)
-    join-from (suc n) a s e b =
-        let inside : a < length r = omega arith in
-        let more = λ (t : Row) (c : Begun (a + 1) t). join-from n (a + 1) t (omega arith) c in
+    -- the merge with a solution has its values for the variables of the patterns
+    value-merge_own : (v : ℕ) → mentions v ts ≡ true → value (merge r u) v ≡ value u v
+    value-merge_own v held =
         ⊎_elim
-        (λ h. ⊎_elim (join-bound a n s b inside more h) (join-free a n s b inside more h)
-        (cases_Bool (has_value r a)))
-        (join-past a n s b inside more)
-        (cases_Bool (mentions a ts))
+        (λ small. value-merge r u v
+        ∙ either-second (value r v) (value u v) (agree_from_compatible r u fits v)
+        (λ e. let t = c.given v small held (value-blank v) in omega (arith, t.positive, e)))
+        (equal_past (merge r u) u variables long-merged (c.long ∙ length-blank) v)
+        (cases_lt v variables)
 
--- the merges of the row with the solutions of a basic pattern are its completions that are in the store
-pub join-pattern : (m : Meaning) (ts : List TriplePattern) (r : Row) → Valid m.top r
-    → map (merge r) (filter (compatible r) (bgp m ts)) ≡ filter (stored m ts) (completions m.top ts r)
-join-pattern m ts r valid =
-    let none_given : replicate (length r) none ≡ blank = ap (λ n. replicate n none) valid.long in
-    let begun : Begun m ts r 0 blank = record {
-      long = length-blank ∙ sym valid.long;
-      rest = λ v _. value-blank v;
-      given = λ v _ l. absurd (omega arith);
-    } in
-    ap (λ vs. merged m ts r vs blank) (open_variables-blank ts)
-    ∙ join-from m ts r valid.small variables 0 blank (omega (arith, valid.long)) begun
-    ∙ ap (λ c. cond c (held m ts r (open_variables ts r) (merge r blank)) [])
-    (ap (compatible r) (sym none_given) ∙ compatible-none r)
-    ∙ ap (held m ts r (open_variables ts r)) (ap (merge r) (sym none_given) ∙ merge-none r)
+    completes-merge : Completes m.top ts r (merge r u)
+    completes-merge = record {
+      long = long-merged ∙ sym valid.long;
+      given = λ v small held free.
+          subst (Term m.top) (sym (value-merge_own v held)) (c.given v small held (value-blank v));
+      kept = λ v. ⊎_elim
+          (equal_past (merge r u) r variables long-merged valid.long v)
+          (⊎_elim
+          (λ lacks. value-merge r u v ∙ ap (either (value r v)) (c.kept v (inr (inl lacks)) ∙ value-blank v)
+          ∙ either-none (value r v))
+          (λ some. value-merge r u v ∙ either-bound (value r v) (value u v) some));
+    }
+
+  pub stored_from_merges : (s : Row) → Member s (merges m ts r)
+      → Member s (filter (stored m ts) (completions m.top ts r))
+  stored_from_merges s h =
+      let (u, there, is) = member_from_map (merge r) s (filter (compatible r) (bgp m ts)) h in
+      let (solution, fits) = member_from_filter (compatible r) u (bgp m ts) there in
+      let (c, held) = completes_from_stored m ts blank u length-blank solution in
+      subst (λ t. Member t (filter (stored m ts) (completions m.top ts r))) (sym is)
+      (member-stored m ts r (merge r u) (completes-merge u c fits)
+      (stored-same m ts (merge r u) u (value-merge_own u c fits) ∙ held))
+
+  -- of which solution a completion is the merge: the row with its values for the variables of the patterns
+
+  module _ (s : Row) (done : Completes m.top ts r s) where
+    abbrev solution : Row
+    solution = lent ts blank s
+
+    own : (v : ℕ) → mentions v ts ≡ true → value solution v ≡ value s v
+    own = value-lent_own ts blank s (done.long ∙ valid.long ∙ sym length-blank)
+
+    none_elsewhere : (v : ℕ) → mentions v ts ≡ false → value solution v ≡ none
+    none_elsewhere v lacks = value-lent_other ts blank s v lacks ∙ value-blank v
+
+    completes-solution : Completes m.top ts blank solution
+    completes-solution = record {
+      long = length-lent ts blank s;
+      given = λ v small held _. subst (Term m.top) (sym (own v held))
+          (⊎_elim (done.given v small held)
+          (λ some. let same = done.kept v (inr (inr some)) in
+          record { positive = omega (arith, same, some); small = omega (arith, same, valid.small v) })
+          (cases_eq (value r v) none));
+      kept = λ v. ⊎_elim
+          (equal_past solution blank variables (length-lent ts blank s ∙ length-blank) length-blank v)
+          (⊎_elim (value-lent_other ts blank s v) (λ some. absurd (some (value-blank v))));
+    }
+
+    compatible-solution : compatible r solution ≡ true
+    compatible-solution =
+        compatible_from_values r solution (valid.long ∙ sym (length-lent ts blank s ∙ length-blank))
+        (λ v. ⊎_elim
+        (λ free. agree-none (value r v) (value solution v) free)
+        (λ some. ⊎_elim
+        (λ held. agree-same (value r v) (value solution v) (sym (own v held ∙ done.kept v (inr (inr some)))))
+        (λ lacks. agree-with_none (value r v) (value solution v) (none_elsewhere v lacks))
+        (cases_Bool (mentions v ts)))
+        (cases_eq (value r v) none))
+
+    merge-solution : merge r solution ≡ s
+    merge-solution =
+        row_from_values (merge r solution) s
+        (long-merged solution completes-solution compatible-solution ∙ sym (done.long ∙ valid.long))
+        (λ v. ⊎_elim
+        (λ held. value-merge_own solution completes-solution compatible-solution v held ∙ own v held)
+        (λ lacks. (completes-merge solution completes-solution compatible-solution).kept v (inr (inl lacks))
+        ∙ sym (done.kept v (inr (inl lacks))))
+        (cases_Bool (mentions v ts)))
+
+  merges_from_stored : (s : Row) → Member s (filter (stored m ts) (completions m.top ts r))
+      → Member s (merges m ts r)
+  merges_from_stored s h =
+      let (done, held) = completes_from_stored m ts r s valid.long h in
+      let u = lent ts blank s in
+      subst (λ t. Member t (merges m ts r)) (merge-solution s done)
+      (member-map (merge r) u (filter (compatible r) (bgp m ts))
+      (member-filter (compatible r) u (bgp m ts) (compatible-solution s done)
+      (member-stored m ts blank u (completes-solution s done) (stored-same m ts u s (own s done) ∙ held))))
+
+  -- the solution is all that the merge is of
+  solution_from_merge : (s t : Row) → Completes m.top ts blank t → compatible r t ≡ true → s ≡ merge r t
+      → lent ts blank s ≡ t
+  solution_from_merge s t c fits e =
+      let long = ap length e ∙ long-merged t c fits ∙ sym length-blank in
+      row_from_values (lent ts blank s) t (length-lent ts blank s ∙ sym c.long)
+      (λ v. ⊎_elim
+      (λ held. value-lent_own ts blank s long v held ∙ ap (λ u. value u v) e
+      ∙ value-merge_own t c fits v held)
+      (λ lacks. value-lent_other ts blank s v lacks ∙ sym (c.kept v (inr (inl lacks))))
+      (cases_Bool (mentions v ts)))
+
+  -- so a row is a merge once at the most
+  merges-once : (s : Row) → times s (merges m ts r) ≤ 1
+  merges-once s =
+      let solutions = filter (compatible r) (bgp m ts) in
+      let u = lent ts blank s in
+      let same : (t : Row) → Member t solutions → same_row s (merge r t) ≡ true → same_row u t ≡ true =
+      (λ t there is.
+      let (found, fits) = member_from_filter (compatible r) t (bgp m ts) there in
+      let (c, held) = completes_from_stored m ts blank t length-blank found in
+      (same_row_decides u t).1 (solution_from_merge s t c fits (equal_from_same_row s (merge r t) is))) in
+      let fewer = count_by-weaker (λ t. same_row s (merge r t)) (same_row u) solutions
+      (all_from_members (λ t. same_row s (merge r t) ≡ true → same_row u t ≡ true) solutions same) in
+      let most = times-ascending (open_variables ts blank) solutions
+      (ascending-filter (Less (open_variables ts blank)) (compatible r) (bgp m ts)
+      (ascending-stored m ts blank length-blank)) u in
+      omega (arith, count_by-map (same_row s) (merge r) solutions, most, fewer)
+
+  -- the merges of the row with the solutions of a basic pattern are its completions that are in the store
+  pub as_often-merges : AsOften (merges m ts r) (filter (stored m ts) (completions m.top ts r))
+  as_often-merges =
+      as_often_from_members (merges m ts r) (filter (stored m ts) (completions m.top ts r)) merges-once
+      (times-ascending (open_variables ts r) (filter (stored m ts) (completions m.top ts r))
+      (ascending-stored m ts r valid.long))
+      stored_from_merges merges_from_stored

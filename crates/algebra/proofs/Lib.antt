@@ -1,32 +1,41 @@
 -- Read in this order.
+-- lists
+pub mod Lists  -- All, flat_map, filter, totals and counts
+pub mod Members  -- what is an element of what an operation makes
+pub mod Ranges  -- the n numbers from a on
+pub mod Ascents  -- lists of which each element is before the later ones
+-- rows and patterns
+pub mod Rows  -- the values of a row, and when two rows are the same
+pub mod Patterns  -- triple patterns under rows that have the same values
+pub mod Assignments  -- the rows that give listed variables values
+pub mod Lexical  -- rows compared variable by variable, and the order of the assignments
+pub mod Completions  -- the rows that give the open variables of patterns values
+-- the walk
 pub mod Listing  -- the answers of the walk, as plain lists
-pub mod Lists  -- laws of lists
-pub mod Rows  -- laws of rows
-pub mod Assignments  -- the rows that give some variables values
-pub mod Patterns  -- laws of triple patterns under rows
+pub mod Fitting  -- which completions of a row a part fits
 pub mod Marks  -- the answers among marks
-pub mod Parts  -- the walk of one part
-pub mod Walks  -- the walk of a query
+pub mod Parts  -- the walk of one part answers what is listed of it
+pub mod Walks  -- the walk of a query answers what is listed of it
 pub mod Pruning  -- every term, and the look-ahead, keep the law
 pub mod LookAhead  -- what the look-ahead asks of a pattern
-pub mod Merging  -- rows compared and merged
-pub mod Joins  -- joins with a basic pattern
-pub mod Counts  -- the algebra counts as the listing
+-- counts
+pub mod Merging  -- two rows compared and merged
 pub mod Cardinalities  -- how often a row occurs in what the operators make
-pub mod Examples  -- the worked examples hold
-pub mod Ascents  -- lists that ascend
-pub mod Flat  -- rows compared variable by variable
-pub mod Blocks  -- what blocks do to a row
-pub mod Orders  -- the order in which answers come
-pub mod Ordered  -- the listing ascends
-pub mod Members  -- elements of lists
+pub mod Joins  -- the join of a row with a basic graph pattern
+pub mod Counts  -- the algebra counts as the listing
+pub mod BasicPatterns  -- a basic graph pattern in words
+-- the order
 pub mod Owners  -- to which part a variable belongs
-pub mod Phrases  -- laws of what the words on an answer name
-pub mod Fillings  -- rows that fill what triples leave open
-pub mod Work  -- rows in work, block by block
+pub mod TotalOrder  -- of two answers that are not the same, one comes before the other
+pub mod Blocks  -- what blocks do to the values of a row
+pub mod ListingOrder  -- the listing ascends, and has nothing twice
+-- the words
+pub mod Upto  -- the parts reached, and a row with the values of those alone
+pub mod RowsInWork  -- what the walk has of a row when its first blocks are done
 pub mod ToWords  -- what is listed is an answer in words
 pub mod FromWords  -- an answer in words is listed
-pub mod BasicPatterns  -- a basic graph pattern in words
-pub mod Numbered  -- the answers of each alternative
 pub mod Solutions  -- the solutions of an alternative in words
+-- what meets in the theorems
+pub mod Numbered  -- the answers of each alternative
 pub mod Completeness  -- the walk lists the answers
+pub mod Examples  -- the worked examples hold

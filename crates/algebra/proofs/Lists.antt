@@ -1,13 +1,13 @@
--- Laws of lists by the operation: All, list_any, filter, flat_map, and the weight of a list, which is the total
--- of a number given to each of its elements. Assumes nothing.
-use Rattle.std.proofs.Common.{◌≡◌, ℕ, ◌+◌, Bool, true, false, cond, ◌&&◌, List, [], ◌∷◌, ◌++◌, map}
-use Rattle.std.proofs.Common.{refl, sym, ap, ◌∙◌, subst, ⊎_elim, arith, count_by}
-use Rattle.std.proofs.lemmas.Bool.{cases_Bool, cond-true, cond-false}
+-- Laws of lists by the operation: All, flat_map, filter, the weight of a list, which is the total of a number
+-- given to each of its elements, counts, list_all, cond, and drop. Assumes nothing.
+use Rattle.std.proofs.Common.{◌≤◌, ◌≡◌, ℕ, ◌+◌, Bool, true, false, cond, ◌&&◌, List, [], ◌∷◌, ◌++◌, map, refl}
+use Rattle.std.proofs.Common.{sym, ap, ◌∙◌, subst, ⊎_elim, arith, count_by, ◌<◌, suc, length, get_or, drop}
+use Rattle.std.proofs.Math.Seq.{drop-cons}
+use Rattle.std.proofs.lemmas.Bool.{cases_Bool, cond-true, cond-false, and_parts}
 use Rattle.std.proofs.lemmas.Grind.{flat_map-append}
 use Rattle.std.proofs.lemmas.List.Elements.{filter-append}
-use Rattle.std.proofs.lemmas.List.{map-append}
-use Rattle.std.proofs.lemmas.List.Sums.{sum_by-cons}
-use Rattle.std.specs.List.{filter, flat_map, AllByRecursion}
+use Rattle.std.proofs.lemmas.List.Sums.{sum_by-cons, sum_by-append}
+use Rattle.std.specs.List.{filter, flat_map, list_all, AllByRecursion}
 use Rattle.query.specs.Lawful.{total}
 
 -- filter, at a first element
@@ -36,15 +36,13 @@ module _ {A : Type 0} where
   all-every P h [] = tt
   all-every P h (x ∷ xs) = (h x, all-every P h xs)
 
-  -- what P and the test give of an element, all have that pass it
-  pub all-filter : (P Q : A → Type 0) (p : A → Bool) → ((x : A) → P x → p x ≡ true → Q x) → (xs : List A)
-      → AllByRecursion P xs
-      → AllByRecursion Q (filter p xs)
-  all-filter P Q p to [] h = tt
-  all-filter P Q p to (x ∷ xs) h =
+  pub all-filter : (P : A → Type 0) (p : A → Bool) (xs : List A) → AllByRecursion P xs
+      → AllByRecursion P (filter p xs)
+  all-filter P p [] h = tt
+  all-filter P p (x ∷ xs) h =
       ⊎_elim
-      (λ t. subst (AllByRecursion Q) (sym (filter-yes p x xs t)) (to x h.0 t, all-filter P Q p to xs h.1))
-      (λ f. subst (AllByRecursion Q) (sym (filter-no p x xs f)) (all-filter P Q p to xs h.1))
+      (λ t. subst (AllByRecursion P) (sym (filter-yes p x xs t)) (h.0, all-filter P p xs h.1))
+      (λ f. subst (AllByRecursion P) (sym (filter-no p x xs f)) (all-filter P p xs h.1))
       (cases_Bool (p x))
 
   pub all-map : {B : Type 0} (P : A → Type 0) (f : B → A) (xs : List B) → AllByRecursion (λ x. P (f x)) xs
@@ -60,11 +58,7 @@ module _ {A : Type 0} where
 -- flat_map
 
 module _ {A B : Type 0} where
-  pub flat_map-like : (f g : A → List B) → ((x : A) → f x ≡ g x) → (xs : List A) → flat_map f xs ≡ flat_map g xs
-  flat_map-like f g e [] = refl
-  flat_map-like f g e (x ∷ xs) = ap (λ ys. ys ++ flat_map f xs) (e x) ∙ ap (λ ys. g x ++ ys) (flat_map-like f g e xs)
-
-  -- the same where f and g agree on the elements
+  -- f and g agree on the elements
   pub flat_map-same : (f g : A → List B) (xs : List A) → AllByRecursion (λ x. f x ≡ g x) xs
       → flat_map f xs ≡ flat_map g xs
   flat_map-same f g [] h = refl
@@ -89,12 +83,6 @@ module _ {A B : Type 0} where
       (λ n. ap (flat_map f) (filter-no p x xs n) ∙ flat_map-filter f p xs
       ∙ ap (λ ys. ys ++ flat_map (λ y. cond (p y) (f y) []) xs) (sym (cond-false (p x) (f x) [] n)))
       (cases_Bool (p x))
-
-  pub map-flat_map : {C : Type 0} (h : B → C) (f : A → List B) (xs : List A)
-      → map h (flat_map f xs) ≡ flat_map (λ x. map h (f x)) xs
-  map-flat_map h f [] = refl
-  map-flat_map h f (x ∷ xs) =
-      map-append h (f x) (flat_map f xs) ∙ ap (λ ys. map h (f x) ++ ys) (map-flat_map h f xs)
 
 -- filter
 
@@ -137,16 +125,8 @@ module _ {A : Type 0} where
   filter-all p [] h = refl
   filter-all p (x ∷ xs) h = filter-yes p x xs h.0 ∙ ap (λ ys. x ∷ ys) (filter-all p xs h.1)
 
-  pub filter-map : {B : Type 0} (p : A → Bool) (f : B → A) (xs : List B)
-      → filter p (map f xs) ≡ map f (filter (λ x. p (f x)) xs)
-  filter-map p f [] = refl
-  filter-map p f (x ∷ xs) =
-      ⊎_elim
-      (λ t. filter-yes p (f x) (map f xs) t ∙ ap (λ ys. f x ∷ ys) (filter-map p f xs)
-      ∙ ap (map f) (sym (filter-yes (λ y. p (f y)) x xs t)))
-      (λ n. filter-no p (f x) (map f xs) n ∙ filter-map p f xs
-      ∙ ap (map f) (sym (filter-no (λ y. p (f y)) x xs n)))
-      (cases_Bool (p (f x)))
+  pub filter-true : (xs : List A) → filter (λ _. true) xs ≡ xs
+  filter-true xs = filter-all (λ _. true) xs (all-every (λ _. true ≡ true) (λ _. refl) xs)
 
 -- weight: the total of a number given to each element
 
@@ -186,13 +166,75 @@ module _ {A : Type 0} (w : A → ℕ) where
   total-plus v [] = refl
   total-plus v (x ∷ xs) = omega (arith, total-plus v xs)
 
-  pub total-zero : (xs : List A) → AllByRecursion (λ x. w x ≡ 0) xs → total w xs ≡ 0
+  total-zero : (xs : List A) → AllByRecursion (λ x. w x ≡ 0) xs → total w xs ≡ 0
   total-zero [] h = refl
   total-zero (x ∷ xs) h = omega (arith, h.0, total-zero xs h.1)
 
--- how many elements pass a test is a weight
+-- count_by
 
-pub count-total : {A : Type 0} (p : A → Bool) (xs : List A) → count_by p xs ≡ total (λ x. cond (p x) 1 0) xs
-count-total p [] = refl
-count-total p (x ∷ xs) =
-    sum_by-cons (λ y. cond (p y) 1 0) x xs ∙ ap (λ n. cond (p x) 1 0 + n) (count-total p xs)
+module _ {A : Type 0} (p : A → Bool) where
+  pub count_by-yes : (x : A) (xs : List A) → p x ≡ true → count_by p (x ∷ xs) ≡ 1 + count_by p xs
+  count_by-yes x xs t =
+      omega (arith, sum_by-cons (λ y. cond (p y) 1 0) x xs, cond-true {A = ℕ} (p x) 1 0 t)
+
+  pub count_by-no : (x : A) (xs : List A) → p x ≡ false → count_by p (x ∷ xs) ≡ count_by p xs
+  count_by-no x xs f =
+      omega (arith, sum_by-cons (λ y. cond (p y) 1 0) x xs, cond-false {A = ℕ} (p x) 1 0 f)
+
+  pub count_by-append : (xs ys : List A) → count_by p (xs ++ ys) ≡ count_by p xs + count_by p ys
+  count_by-append xs ys = sum_by-append (λ x. cond (p x) 1 0) xs ys
+
+  -- how many elements pass is a weight
+  pub count_by-total : (xs : List A) → count_by p xs ≡ total (λ x. cond (p x) 1 0) xs
+  count_by-total [] = refl
+  count_by-total (x ∷ xs) =
+      sum_by-cons (λ y. cond (p y) 1 0) x xs ∙ ap (λ n. cond (p x) 1 0 + n) (count_by-total xs)
+
+  pub count_by-none : (xs : List A) → AllByRecursion (λ x. p x ≡ false) xs → count_by p xs ≡ 0
+  count_by-none [] h = refl
+  count_by-none (x ∷ xs) h = count_by-no x xs h.0 ∙ count_by-none xs h.1
+
+pub count_by-map : {A B : Type 0} (p : A → Bool) (f : B → A) (xs : List B)
+    → count_by p (map f xs) ≡ count_by (λ x. p (f x)) xs
+count_by-map p f xs =
+    count_by-total p (map f xs) ∙ total-map (λ x. cond (p x) 1 0) f xs
+    ∙ sym (count_by-total (λ x. p (f x)) xs)
+
+pub count_by-weaker : {A : Type 0} (p q : A → Bool) (xs : List A)
+    → AllByRecursion (λ x. p x ≡ true → q x ≡ true) xs → count_by p xs ≤ count_by q xs
+count_by-weaker p q [] h = omega arith
+count_by-weaker p q (x ∷ xs) h =
+    let rest = count_by-weaker p q xs h.1 in
+    ⊎_elim
+    (λ t. omega (arith, rest, count_by-yes p x xs t, count_by-yes q x xs (h.0 t)))
+    (λ f. let less = count_by-no p x xs f in
+    ⊎_elim (λ w. omega (arith, rest, less, count_by-yes q x xs w))
+    (λ w. omega (arith, rest, less, count_by-no q x xs w)) (cases_Bool (q x)))
+    (cases_Bool (p x))
+
+-- list_all
+
+pub all_from_list_all : {A : Type 0} (P : A → Type 0) (p : A → Bool) → ((x : A) → p x ≡ true → P x)
+    → (xs : List A) → list_all p xs ≡ true → AllByRecursion P xs
+all_from_list_all P p to [] h = tt
+all_from_list_all P p to (x ∷ xs) h =
+    let (first, rest) = and_parts (p x) (list_all p xs) h in (to x first, all_from_list_all P p to xs rest)
+
+-- cond
+
+pub cond-same : {A : Type 0} (b : Bool) (x : A) → cond b x x ≡ x
+cond-same true x = refl
+cond-same false x = refl
+
+pub total-cond : {A : Type 0} (b : Bool) (w : A → ℕ) (xs : List A)
+    → total (λ x. cond b (w x) 0) xs ≡ cond b (total w xs) 0
+total-cond true w xs = refl
+total-cond false w xs = total-zero (λ _. 0) xs (all-every (λ _. ◌≡◌ {A = ℕ} 0 0) (λ _. refl) xs)
+
+-- drop
+
+pub drop-next : {A : Type 0} (xs : List A) (k : ℕ) (d : A) → k < length xs
+    → drop k xs ≡ get_or xs k d ∷ drop (k + 1) xs
+drop-next xs k d low =
+    let next : suc k ≡ k + 1 = omega arith in
+    drop-cons xs k d low ∙ ap (λ j. get_or xs k d ∷ drop j xs) next

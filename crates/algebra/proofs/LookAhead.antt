@@ -1,47 +1,32 @@
 -- What the look-ahead asks of a pattern: that some triple of the store matches it. Assumes nothing.
 --     look_ahead_in_words     a pattern is possible exactly if a triple of the store matches it
-use Rattle.std.proofs.Common.{◌≡◌, ℕ, ◌<◌, Bool, true, false, cond, not, ◌||◌, ◌≢◌, leb}
-use Rattle.std.proofs.Common.{List, [], ◌∷◌, map, length, refl, sym, ap, ◌∙◌, subst, inl, inr, ⊎_elim, arith}
-use Rattle.std.proofs.lemmas.Bool.{cases_Bool, cases_lt, cond-true, and_parts, and_from, or_left}
-use Rattle.std.proofs.lemmas.Bool.{or_right, or_from, cond_both, eqb-true, eq-eqb, leb-true, both_ways}
-use Rattle.std.proofs.lemmas.List.FromFn.{length-map-range_with_len, get_or-map-range_with_len}
+use Rattle.std.proofs.Common.{◌≡◌, ℕ, ◌<◌, true, false, cond, not, ◌≢◌, leb, List, [], ◌∷◌, map, length, refl}
+use Rattle.std.proofs.Common.{sym, ap, ◌∙◌, subst, inl, inr, ⊎_elim, arith}
+use Rattle.std.proofs.lemmas.Bool.{cases_lt, cond-true, and_parts, and_from, or_from, or_parts, cases_eq}
+use Rattle.std.proofs.lemmas.Bool.{cond_both, eqb-true, eq-eqb, leb-true, both_ways}
+use Rattle.std.proofs.lemmas.List.FromFn.{length-map-range_with_len}
 use Rattle.std.specs.List.{AllByRecursion, flat_map, list_all, list_any}
 use Rattle.query.specs.declared.place.Place.{Place}
 use Rattle.query.specs.declared.place.Place.TheVariants as place
 use Rattle.query.specs.declared.pattern.TriplePattern.{TriplePattern}
-use Rattle.query.specs.Lawful.{mentions, is_variable, lawful_triple, lawful_triples, lawful_filter, lawful_part}
-use Rattle.query.specs.Lawful.{lawful_group, limited, shares, lawful}
-use Rattle.query.specs.Parts.{Part, Group}
-use Rattle.query.proofs.Limits.{group_limits, query_limits}
+use Rattle.query.specs.Lawful.{mentions, is_variable, lawful_triple, lawful_triples, lawful_filter}
+use Rattle.query.specs.Lawful.{lawful_part, lawful_group, limited, shares, lawful}
+use Rattle.query.specs.Parts.{Group}
 use Rattle.query.specs.Limits.{variables, most_variable, most_term, most_in_part, within, lawful_place}
+use Rattle.query.proofs.Limits.{group_limits, query_limits}
 use Rattle.triples.specs.declared.triple.Triple.{Triple}
 use Rattle.triples.specs.Meaning.{Meaning, Sound, Term, Terms}
-use Rattle.filter.specs.Rows.{Row, none, value, has_value, number_at}
+use Rattle.filter.specs.Rows.{Row, none, value, number_at}
 use Rattle.algebra.specs.Patterns.{triple_under, stored, numbers, completions}
 use Rattle.algebra.specs.Admissions.{Completes, Allows, Matches}
 use Rattle.algebra.specs.Order.{parts_of}
 use Rattle.algebra.specs.Theorems.{PossibleInWords, LookAheadInWords, patterns_of}
-use Rattle.algebra.proofs.Lists.{all-append}
-use Rattle.algebra.proofs.Rows.{value-past, has_value-no}
-use Rattle.algebra.proofs.Assignments.{completions-complete}
-use Rattle.algebra.proofs.Pruning.{some-from_has_value, pattern-possible}
-
--- list_any
-
--- an element of which P holds and that passes
-record Found {A : Type 0} (P : A → Type 0) (p : A → Bool) : Type 0 where
-  element : A
-  holds : P element
-  passes : p element ≡ true
-
-any-found : {A : Type 0} (P : A → Type 0) (p : A → Bool) (xs : List A) → AllByRecursion P xs
-    → list_any p xs ≡ true → Found P p
-any-found P p [] all h = absurd (both_ways false refl h)
-any-found P p (x ∷ xs) all h =
-    ⊎_elim
-    (λ t. record { element = x; holds = all.0; passes = t })
-    (λ f. any-found P p xs all.1 (sym (ap (λ b. b || list_any p xs) f) ∙ h))
-    (cases_Bool (p x))
+use Rattle.algebra.proofs.Lists.{all-map, all-flat_map, all_from_list_all}
+use Rattle.algebra.proofs.Members.{has_from_member, member_from_any}
+use Rattle.algebra.proofs.Rows.{equal_past, value-map}
+use Rattle.algebra.proofs.Patterns.{in_triple, in_subject, in_property, in_object}
+use Rattle.algebra.proofs.Completions.{all-completions}
+use Rattle.algebra.proofs.Pruning.{possible_from_stored}
 
 -- places and triples
 
@@ -61,29 +46,28 @@ same_triple a b subject property object =
 -- from a completion to a triple
 
 -- a value that a completion has at a place is one that the place allows
-allows-completed : (top : ℕ) (ts : List TriplePattern) (r s : Row) → Completes top ts r s → (p : Place)
+allows_from_completes : (top : ℕ) (ts : List TriplePattern) (r s : Row) → Completes top ts r s → (p : Place)
     → Allows r p (number_at s p)
-allows-completed top ts r s done (place.Term n) = inr refl
-allows-completed top ts r s done (place.Variable v) =
-    ⊎_elim (λ has. inr (sym (done.kept v (inr (inr (some-from_has_value r v has))))))
-    (λ lacks. inl (has_value-no r v lacks)) (cases_Bool (has_value r v))
+allows_from_completes top ts r s done (place.Term n) = inr refl
+allows_from_completes top ts r s done (place.Variable v) =
+    ⊎_elim inl (λ some. inr (sym (done.kept v (inr (inr some))))) (cases_eq (value r v) none)
 
-matched-completed : (top : ℕ) (ts : List TriplePattern) (r s : Row) → Completes top ts r s
+matches_from_completes : (top : ℕ) (ts : List TriplePattern) (r s : Row) → Completes top ts r s
     → (t : TriplePattern) → Matches r t (triple_under s t)
-matched-completed top ts r s done t = record {
-  subject = allows-completed top ts r s done t.subject;
-  property = allows-completed top ts r s done t.property;
-  object = allows-completed top ts r s done t.object;
+matches_from_completes top ts r s done t = record {
+  subject = allows_from_completes top ts r s done t.subject;
+  property = allows_from_completes top ts r s done t.property;
+  object = allows_from_completes top ts r s done t.object;
   subject_property = ap (number_at s);
   subject_object = ap (number_at s);
   property_object = ap (number_at s);
 }
 
 -- what a place allows is the value that the variable there has
-allowed-value : (r : Row) (p : Place) (n v : ℕ) → is_variable v p ≡ true → Allows r p n → value r v ≢ none
+value_from_allows : (r : Row) (p : Place) (n v : ℕ) → is_variable v p ≡ true → Allows r p n → value r v ≢ none
     → n ≡ value r v
-allowed-value r (place.Term m) n v here allows has = absurd (both_ways false refl here)
-allowed-value r (place.Variable w) n v here allows has =
+value_from_allows r (place.Term m) n v here allows has = absurd (both_ways false refl here)
+value_from_allows r (place.Variable w) n v here allows has =
     let e : v ≡ w = eqb-true v w here in
     ⊎_elim
     (λ nothing. absurd (has (ap (value r) e ∙ nothing)))
@@ -91,18 +75,6 @@ allowed-value r (place.Variable w) n v here allows has =
     allows
 
 -- from a triple to a completion
-
--- a variable at a place of the pattern is in it
-module _ (t : TriplePattern) (v : ℕ) where
-  at_subject : is_variable v t.subject ≡ true → mentions v (t ∷ []) ≡ true
-  at_subject h = or_left _ false (or_left _ _ h)
-
-  at_property : is_variable v t.property ≡ true → mentions v (t ∷ []) ≡ true
-  at_property h = or_left _ false (or_right (is_variable v t.subject) _ (or_left _ _ h))
-
-  at_object : is_variable v t.object ≡ true → mentions v (t ∷ []) ≡ true
-  at_object h =
-      or_left _ false (or_right (is_variable v t.subject) _ (or_right (is_variable v t.property) _ h))
 
 -- what the row that has the numbers of u at the variables of t, and is like r elsewhere, gives v
 abbrev picked : Row → TriplePattern → Triple → ℕ → ℕ
@@ -117,21 +89,20 @@ filled r t u = map (picked r t u) numbers
 module _ (r : Row) (t : TriplePattern) (u : Triple) where
   picked-each : (v : ℕ) (P : ℕ → Type 0) → (is_variable v t.subject ≡ true → P u.subject)
       → (is_variable v t.property ≡ true → P u.property) → (is_variable v t.object ≡ true → P u.object)
-      → (mentions v (t ∷ []) ≡ false → P (value r v)) → P (picked r t u v)
+      → (in_triple v t ≡ false → P (value r v)) → P (picked r t u v)
   picked-each v P subject property object other =
       let last = cond (is_variable v t.object) u.object (value r v) in
       let later = cond (is_variable v t.property) u.property last in
       cond_both (is_variable v t.subject) u.subject later P subject
       (λ a. cond_both (is_variable v t.property) u.property last P property
       (λ b. cond_both (is_variable v t.object) u.object (value r v) P object
-      (λ c. other (or_from _ false (or_from (is_variable v t.subject) _ a
-      (or_from (is_variable v t.property) _ b c)) refl))))
+      (λ c. other (or_from (is_variable v t.subject) _ a (or_from (is_variable v t.property) _ b c)))))
 
   length-filled : length (filled r t u) ≡ variables
   length-filled = length-map-range_with_len (picked r t u) 0 variables
 
   value-filled : (v : ℕ) → v < variables → value (filled r t u) v ≡ picked r t u v
-  value-filled v below = get_or-map-range_with_len (picked r t u) 0 variables v v none below (omega arith)
+  value-filled v = value-map (picked r t u) variables v
 
   number_at-filled : (p : Place) (n : ℕ) → lawful_place p ≡ true → Allows r p n
       → ((v : ℕ) → is_variable v p ≡ true → picked r t u v ≡ n) → number_at (filled r t u) p ≡ n
@@ -154,7 +125,7 @@ module _ (r : Row) (t : TriplePattern) (u : Triple) (matches : Matches r t u) wh
       (λ k. matches.subject_property (same_place v t.subject t.property k h))
       (λ k. refl)
       (λ k. sym (matches.property_object (same_place v t.property t.object h k)))
-      (λ free. absurd (both_ways (mentions v (t ∷ [])) free (at_property t v h)))
+      (λ free. absurd (both_ways (in_triple v t) free (in_property v t h)))
 
   picked-object : (v : ℕ) → is_variable v t.object ≡ true → picked r t u v ≡ u.object
   picked-object v h =
@@ -162,7 +133,7 @@ module _ (r : Row) (t : TriplePattern) (u : Triple) (matches : Matches r t u) wh
       (λ k. matches.subject_object (same_place v t.subject t.object k h))
       (λ k. matches.property_object (same_place v t.property t.object k h))
       (λ k. refl)
-      (λ free. absurd (both_ways (mentions v (t ∷ [])) free (at_object t v h)))
+      (λ free. absurd (both_ways (in_triple v t) free (in_object v t h)))
 
   triple_under-filled : lawful_triple t ≡ true → triple_under (filled r t u) t ≡ u
   triple_under-filled lawful =
@@ -177,88 +148,78 @@ module _ (r : Row) (t : TriplePattern) (u : Triple) (matches : Matches r t u) wh
   picked-kept : (v : ℕ) → value r v ≢ none → picked r t u v ≡ value r v
   picked-kept v some =
       picked-each r t u v (λ n. n ≡ value r v)
-      (λ k. allowed-value r t.subject u.subject v k matches.subject some)
-      (λ k. allowed-value r t.property u.property v k matches.property some)
-      (λ k. allowed-value r t.object u.object v k matches.object some)
+      (λ k. value_from_allows r t.subject u.subject v k matches.subject some)
+      (λ k. value_from_allows r t.property u.property v k matches.property some)
+      (λ k. value_from_allows r t.object u.object v k matches.object some)
       (λ k. refl)
 
   -- so is what the row has for a variable that is not in the pattern
-  picked-other : (v : ℕ) → mentions v (t ∷ []) ≡ false → picked r t u v ≡ value r v
+  picked-other : (v : ℕ) → in_triple v t ≡ false → picked r t u v ≡ value r v
   picked-other v free =
       picked-each r t u v (λ n. n ≡ value r v)
-      (λ k. absurd (both_ways (mentions v (t ∷ [])) free (at_subject t v k)))
-      (λ k. absurd (both_ways (mentions v (t ∷ [])) free (at_property t v k)))
-      (λ k. absurd (both_ways (mentions v (t ∷ [])) free (at_object t v k)))
+      (λ k. absurd (both_ways (in_triple v t) free (in_subject v t k)))
+      (λ k. absurd (both_ways (in_triple v t) free (in_property v t k)))
+      (λ k. absurd (both_ways (in_triple v t) free (in_object v t k)))
       (λ k. refl)
 
-  filled-completes : (top : ℕ) → Terms top u → length r ≡ variables → Completes top (t ∷ []) r (filled r t u)
-  filled-completes top terms long = record {
+  completes-filled : (top : ℕ) → Terms top u → length r ≡ variables → Completes top (t ∷ []) r (filled r t u)
+  completes-filled top terms long = record {
     long = length-filled r t u ∙ sym long;
     given = λ v below inside nothing. subst (Term top) (sym (value-filled r t u v below))
         (picked-each r t u v (Term top) (λ k. terms.subject) (λ k. terms.property) (λ k. terms.object)
-        (λ free. absurd (both_ways (mentions v (t ∷ [])) free inside)));
+        (λ free. absurd (both_ways (mentions v (t ∷ [])) (or_from _ false free refl) inside)));
     kept = λ v h. ⊎_elim
         (λ below. value-filled r t u v below
-        ∙ ⊎_elim (λ past. absurd (omega (arith, below, past))) (⊎_elim (picked-other v) (picked-kept v)) h)
-        (λ past. value-past (filled r t u) v (omega (arith, past, length-filled r t u))
-        ∙ sym (value-past r v (omega (arith, past, long))))
+        ∙ ⊎_elim (λ past. absurd (omega (arith, below, past)))
+        (⊎_elim (λ lacks. picked-other v ((or_parts _ false lacks).0)) (picked-kept v)) h)
+        (equal_past (filled r t u) r variables (length-filled r t u) long v)
         (cases_lt v variables);
   }
 
 -- a pattern is possible exactly if some triple of the store matches it
-possible-matched : (m : Meaning) (t : TriplePattern) → Sound m → lawful_triple t ≡ true → PossibleInWords m t
-possible-matched m t sound lawful r long = (
-  λ h. let f = any-found (Completes m.top (t ∷ []) r) (stored m (t ∷ [])) (completions m.top (t ∷ []) r)
-      (completions-complete m.top (t ∷ []) r long) h in
-      let held = and_parts (m.has (triple_under f.element t)) true f.passes in (
-        triple_under f.element t,
-        held.0,
-        matched-completed m.top (t ∷ []) r f.element f.holds t,
+possible_in_words : (m : Meaning) (t : TriplePattern) → Sound m → lawful_triple t ≡ true → PossibleInWords m t
+possible_in_words m t sound lawful r long = (
+  λ h. let (s, there, held) = member_from_any (stored m (t ∷ [])) (completions m.top (t ∷ []) r) h in
+      let done = has_from_member (Completes m.top (t ∷ []) r) s (completions m.top (t ∷ []) r)
+      (all-completions m.top (t ∷ []) r long) there in (
+        triple_under s t,
+        (and_parts (m.has (triple_under s t)) true held).0,
+        matches_from_completes m.top (t ∷ []) r s done t,
       ),
   λ u has matches.
-      pattern-possible m (t ∷ []) r (filled r t u)
-      (filled-completes r t u matches m.top (sound.terms u has) long) t (λ v h. h)
+      possible_from_stored m (t ∷ []) r (filled r t u)
+      (completes-filled r t u matches m.top (sound.terms u has) long) t (λ v h. h)
       (and_from (m.has (triple_under (filled r t u) t)) true
       (ap m.has (triple_under-filled r t u matches lawful) ∙ has) refl),
 )
 
 -- the patterns of a query
 
-module _ (P : TriplePattern → Type 0) (lawful-has : (t : TriplePattern) → lawful_triple t ≡ true → P t) where
-  all-lawful : (ts : List TriplePattern) → list_all lawful_triple ts ≡ true → AllByRecursion P ts
-  all-lawful [] h = tt
-  all-lawful (t ∷ ts) h =
-      let parts = and_parts (lawful_triple t) (list_all lawful_triple ts) h in
-      (lawful-has t parts.0, all-lawful ts parts.1)
+module _ (P : TriplePattern → Type 0) (has : (t : TriplePattern) → lawful_triple t ≡ true → P t) where
+  all-part : (least : ℕ) (ts : List TriplePattern) → lawful_triples least ts ≡ true → AllByRecursion P ts
+  all-part least ts h =
+      all_from_list_all P lawful_triple has ts
+      (and_parts (within least most_in_part (length ts)) (list_all lawful_triple ts) h).1
 
-  all-block_patterns : (bs : List Part) → list_all lawful_part bs ≡ true
-      → AllByRecursion P (flat_map (λ ts. ts) (map (λ b. b.triples) bs))
-  all-block_patterns [] h = tt
-  all-block_patterns (b ∷ bs) h =
-      let parts = and_parts (lawful_part b) (list_all lawful_part bs) h in
-      let triples = and_parts (lawful_triples 1 b.triples) (lawful_filter b.filter) parts.0 in
-      let each = and_parts (within 1 most_in_part (length b.triples)) (list_all lawful_triple b.triples)
-      triples.0 in
-      all-append P b.triples (flat_map (λ ts. ts) (map (λ b. b.triples) bs)) (all-lawful b.triples each.1)
-      (all-block_patterns bs parts.1)
-
-  all-group_patterns : (g : Group) → lawful_group g ≡ true
-      → AllByRecursion P (flat_map (λ ts. ts) (parts_of g))
-  all-group_patterns g h =
+  all-parts : (g : Group) → lawful_group g ≡ true → AllByRecursion P (flat_map (λ ts. ts) (parts_of g))
+  all-parts g h =
       let l = group_limits g h in
-      let each = and_parts (within 0 most_in_part (length g.required)) (list_all lawful_triple g.required)
-      l.required in
-      all-append P g.required (flat_map (λ ts. ts) (map (λ b. b.triples) g.blocks))
-      (all-lawful g.required each.1) (all-block_patterns g.blocks l.blocks)
+      all-flat_map P (λ ts. ts) (parts_of g) (
+        all-part 0 g.required l.required,
+        all-map (AllByRecursion P) (λ b. b.triples) g.blocks
+            (all_from_list_all (λ b. AllByRecursion P b.triples) lawful_part
+            (λ b k. all-part 1 b.triples
+            (and_parts (lawful_triples 1 b.triples) (lawful_filter b.filter) k).0)
+            g.blocks l.blocks),
+      )
 
   all-patterns : (q : List Group) → list_all lawful_group q ≡ true → AllByRecursion P (patterns_of q)
-  all-patterns [] h = tt
-  all-patterns (g ∷ q) h =
-      let parts = and_parts (lawful_group g) (list_all lawful_group q) h in
-      all-append P (flat_map (λ ts. ts) (parts_of g)) (patterns_of q) (all-group_patterns g parts.0)
-      (all-patterns q parts.1)
+  all-patterns q h =
+      all-flat_map P (λ g. flat_map (λ ts. ts) (parts_of g)) q
+      (all_from_list_all (λ g. AllByRecursion P (flat_map (λ ts. ts) (parts_of g))) lawful_group all-parts
+      q h)
 
 pub look_ahead_in_words : (m : Meaning) (q : List Group) → Sound m → lawful q ≡ true → LookAheadInWords m q
 look_ahead_in_words m q sound h =
-    all-patterns (PossibleInWords m) (λ t. possible-matched m t sound) q
+    all-patterns (PossibleInWords m) (λ t. possible_in_words m t sound) q
     (query_limits q (and_parts (limited q) (not (list_any shares q)) h).0).groups

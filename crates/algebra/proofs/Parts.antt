@@ -3,8 +3,8 @@
 --     Protects m p admits     no value is left out that some completion which passes p has in the store
 --     filter-walk_part        what passes p is answered as it is listed
 --     answers-walk_part       under a lawful admission all is answered as it is listed
-use Rattle.std.proofs.Common.{◌≡◌, ℕ, Bool, true, false, cond, ◌&&◌, List, [], ◌∷◌, length, refl, sym}
-use Rattle.std.proofs.Common.{ap, ◌∙◌, subst, ⊎_elim}
+use Rattle.std.proofs.Common.{◌≡◌, ℕ, Bool, true, false, cond, ◌&&◌, List, [], ◌∷◌, length, refl, sym, ap}
+use Rattle.std.proofs.Common.{◌∙◌, subst, ⊎_elim}
 use Rattle.std.proofs.lemmas.Bool.{cases_Bool, cond-true, cond-false, and_parts, false_from_ne_true}
 use Rattle.std.proofs.lemmas.Bool.{both_ways}
 use Rattle.std.specs.List.{filter}
@@ -16,22 +16,23 @@ use Rattle.algebra.specs.Patterns.{with_value, stored, open_variables, terms, as
 use Rattle.algebra.specs.Admissions.{Admission, Completes, Lawful}
 use Rattle.algebra.specs.Walk.{Mark, try, answers, admitted, walk_through, walk_part}
 use Rattle.algebra.specs.Theorems.{WalkTakesTheLowest}
-use Rattle.algebra.proofs.Lists.{all-weaker, all-every, all-filter, flat_map-same, flat_map-filter}
-use Rattle.algebra.proofs.Lists.{filter-flat_map, filter-filter, filter-none, filter-all}
+use Rattle.algebra.proofs.Lists.{all-weaker, all-filter, flat_map-same, flat_map-filter, filter-flat_map}
+use Rattle.algebra.proofs.Lists.{filter-filter, filter-none, filter-true}
 use Rattle.algebra.proofs.Rows.{length-with_value}
-use Rattle.algebra.proofs.Assignments.{all-terms, open-rest, completions-complete}
+use Rattle.algebra.proofs.Assignments.{all-terms}
+use Rattle.algebra.proofs.Completions.{open_variables-rest, all-completions}
 use Rattle.algebra.proofs.Listing.{fitting}
 use Rattle.algebra.proofs.Marks.{answers-flat_map, answers-answer_if}
 
 -- a value from 1 to the top is admitted if some completion of the row with it has all the part's triples in
 -- the store and passes p
-abbrev pub Protects : Meaning → (Row → Bool) → Admission → Type 0
+abbrev Protects : Meaning → (Row → Bool) → Admission → Type 0
 Protects m p admits = (ts : List TriplePattern) (r : Row) (v x : ℕ) (s : Row) → Term m.top x
     → Completes m.top ts (with_value r v x) s → stored m ts s ≡ true → p s ≡ true → admits ts r v x ≡ true
 
 -- the law is this with a test that is always true: a lawful admission protects every completion
-pub lawful_protects : (m : Meaning) (admits : Admission) → Lawful m admits → Protects m (λ _. true) admits
-lawful_protects m admits law ts r v x s term completes has _ = law.keeps ts r v x s term completes has
+protects_from_lawful : (m : Meaning) (admits : Admission) → Lawful m admits → Protects m (λ _. true) admits
+protects_from_lawful m admits law ts r v x s term completes has _ = law.keeps ts r v x s term completes has
 
 module _ (m : Meaning) (p : Row → Bool) (admits : Admission) (law : Protects m p admits) (test : Row → Bool)
     (ts : List TriplePattern) where
@@ -40,11 +41,11 @@ module _ (m : Meaning) (p : Row → Bool) (admits : Admission) (law : Protects m
   fits s = stored m ts s && test s
 
   -- a value that is not admitted has no completion that fits and passes p
-  nothing_lost : (r : Row) (v x : ℕ) → length r ≡ variables → Term m.top x → admits ts r v x ≡ false
+  filter-unadmitted : (r : Row) (v x : ℕ) → length r ≡ variables → Term m.top x → admits ts r v x ≡ false
       → filter p (filter fits (completions m.top ts (with_value r v x))) ≡ []
-  nothing_lost r v x long term left =
+  filter-unadmitted r v x long term left =
       let rows = completions m.top ts (with_value r v x) in
-      let complete = completions-complete m.top ts (with_value r v x) (length-with_value r v x ∙ long) in
+      let complete = all-completions m.top ts (with_value r v x) (length-with_value r v x ∙ long) in
       filter-filter p fits rows
       ∙ filter-none (λ s. fits s && p s) rows
       (all-weaker (Completes m.top ts (with_value r v x)) (λ s. (fits s && p s) ≡ false)
@@ -54,6 +55,7 @@ module _ (m : Meaning) (p : Row → Bool) (admits : Admission) (law : Protects m
       both_ways (admits ts r v x) left (law ts r v x s term c has.0 both.1)))
       rows complete)
 
+  -- an admitted value is walked on from, and one that is not admitted has no completion to lose
   filter-walk_through : (vs : List ℕ) (r : Row) → length r ≡ variables → open_variables ts r ≡ vs
       → filter p (answers (walk_through m admits ts fits vs r))
       ≡ filter p (filter fits (assignments m.top vs r))
@@ -64,13 +66,13 @@ module _ (m : Meaning) (p : Row → Bool) (admits : Admission) (law : Protects m
       let each : (x : ℕ) → Term m.top x
       → cond (admits ts r v x) (filter p (answers (after x))) [] ≡ filter p (filter fits (rows x)) =
       λ x term.
-      let rest = open-rest ts r v x vs long e term.positive in
+      let rest = open_variables-rest ts r v x vs long e term.positive in
       ⊎_elim
       (λ t. cond-true (admits ts r v x) (filter p (answers (after x))) [] t
       ∙ filter-walk_through vs (with_value r v x) (length-with_value r v x ∙ long) rest)
       (λ n. cond-false (admits ts r v x) (filter p (answers (after x))) [] n
       ∙ sym (subst (λ ws. filter p (filter fits (assignments m.top ws (with_value r v x))) ≡ []) rest
-      (nothing_lost r v x long term n)))
+      (filter-unadmitted r v x long term n)))
       (cases_Bool (admits ts r v x)) in
       ap (filter p) (answers-flat_map (λ x. try v x ∷ after x) (admitted m admits ts r v))
       ∙ filter-flat_map p (λ x. answers (after x)) (admitted m admits ts r v)
@@ -84,7 +86,7 @@ module _ (m : Meaning) (p : Row → Bool) (admits : Admission) (law : Protects m
       ∙ filter-flat_map p (λ x. filter fits (rows x)) (terms m.top))
 
   -- of the answers and of the completions that fit, the same pass p
-  pub filter-walk_part : (r : Row) → length r ≡ variables
+  filter-walk_part : (r : Row) → length r ≡ variables
       → filter p (answers (walk_part m admits test ts r)) ≡ filter p (fitting m test ts r)
   filter-walk_part r long =
       filter-walk_through (open_variables ts r) r long refl
@@ -98,17 +100,12 @@ walk_takes_the_lowest m admits test ts r v vs long e =
     ap (λ ws. through ws r) e
     ∙ flat_map-same (λ x. try v x ∷ through vs (with_value r v x)) (λ x. try v x ∷ part (with_value r v x))
     (admitted m admits ts r v)
-    (all-filter (Term m.top)
+    (all-weaker (Term m.top)
     (λ x. ◌≡◌ {A = List (Mark Row)} (try v x ∷ through vs (with_value r v x))
     (try v x ∷ part (with_value r v x)))
-    (admits ts r v)
-    (λ x term _. ap (λ ws. try v x ∷ through ws (with_value r v x))
-    (sym (open-rest ts r v x vs long e term.positive)))
-    (terms m.top) (all-terms m.top))
-
--- a test that is always true leaves all rows
-pub filter-true : (rows : List Row) → filter (λ _. true) rows ≡ rows
-filter-true rows = filter-all (λ _. true) rows (all-every (λ _. true ≡ true) (λ _. refl) rows)
+    (λ x term. ap (λ ws. try v x ∷ through ws (with_value r v x))
+    (sym (open_variables-rest ts r v x vs long e term.positive)))
+    (admitted m admits ts r v) (all-filter (Term m.top) (admits ts r v) (terms m.top) (all-terms m.top)))
 
 -- under a lawful admission the walk of a part answers the completions that it fits
 pub answers-walk_part : (m : Meaning) (admits : Admission) → Lawful m admits → (test : Row → Bool)
@@ -116,5 +113,5 @@ pub answers-walk_part : (m : Meaning) (admits : Admission) → Lawful m admits �
     → answers (walk_part m admits test ts r) ≡ fitting m test ts r
 answers-walk_part m admits law test ts r long =
     sym (filter-true (answers (walk_part m admits test ts r)))
-    ∙ filter-walk_part m (λ _. true) admits (lawful_protects m admits law) test ts r long
+    ∙ filter-walk_part m (λ _. true) admits (protects_from_lawful m admits law) test ts r long
     ∙ filter-true (fitting m test ts r)

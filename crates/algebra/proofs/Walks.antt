@@ -1,7 +1,7 @@
 -- The walk of a query answers the rows that the listing has, in its order. Assumes nothing.
 --     walk_is_answers          under a lawful admission the walk answers what is listed of the query
 --     same_under_all_pruners   so what a pruner admits changes no answer
-use Rattle.std.proofs.Common.{◌≡◌, ℕ, ◌+◌, Bool, true, List, [], ◌∷◌, ◌++◌, length, refl, sym, ap, ◌∙◌}
+use Rattle.std.proofs.Common.{◌≡◌, ℕ, ◌+◌, true, List, [], ◌∷◌, ◌++◌, length, refl, sym, ap, ◌∙◌}
 use Rattle.std.proofs.lemmas.List.{append-nil}
 use Rattle.std.proofs.lemmas.List.Concat.{flat_map_single}
 use Rattle.std.specs.List.{filter, flat_map, AllByRecursion}
@@ -15,14 +15,15 @@ use Rattle.filter.specs.Filters.{passes}
 use Rattle.algebra.specs.Patterns.{blank, stored, completions}
 use Rattle.algebra.specs.Answers.{Answer, numbered}
 use Rattle.algebra.specs.Admissions.{Admission, Completes, Lawful}
-use Rattle.algebra.specs.Walk.{answer, answers, follow, otherwise, walk_part, walk_block}
-use Rattle.algebra.specs.Walk.{walk_blocks, walk_group, walk_from, walk}
+use Rattle.algebra.specs.Walk.{answer, answers, follow, otherwise, walk_part, walk_block, walk_blocks}
+use Rattle.algebra.specs.Walk.{walk_group, walk_from, walk}
 use Rattle.algebra.specs.Theorems.{SameUnderAllPruners}
-use Rattle.algebra.proofs.Lists.{all-weaker, all-filter, flat_map-same, filter-flat_map}
+use Rattle.algebra.proofs.Lists.{all-weaker, all-filter, flat_map-same, filter-flat_map, filter-true}
+use Rattle.algebra.proofs.Completions.{all-completions}
 use Rattle.algebra.proofs.Listing.{fitting, or_itself, extended, rows_of, answers_of_from, answers_of}
+use Rattle.algebra.proofs.Fitting.{all-or_itself, all-fitting}
 use Rattle.algebra.proofs.Marks.{answers-append, answers-follow, answers-answer_if}
-use Rattle.algebra.proofs.Assignments.{completions-complete}
-use Rattle.algebra.proofs.Parts.{filter-true, answers-walk_part}
+use Rattle.algebra.proofs.Parts.{answers-walk_part}
 
 -- rows of sixteen values
 
@@ -30,23 +31,11 @@ use Rattle.algebra.proofs.Parts.{filter-true, answers-walk_part}
 abbrev Long : Row → Type 0
 Long r = length r ≡ variables
 
-long_starts : (m : Meaning) (ts : List TriplePattern) (r : Row) → Long r
-    → AllByRecursion Long (filter (stored m ts) (completions m.top ts r))
-long_starts m ts r long =
-    all-filter Long Long (stored m ts) (λ s l _. l) (completions m.top ts r)
-    (all-weaker (Completes m.top ts r) Long (λ s c. c.long ∙ long) (completions m.top ts r)
-    (completions-complete m.top ts r long))
-
-long_fitting : (m : Meaning) (test : Row → Bool) (ts : List TriplePattern) (r : Row) → Long r
-    → AllByRecursion Long (fitting m test ts r)
-long_fitting m test ts r long =
-    all-filter Long Long test (λ s l _. l) (filter (stored m ts) (completions m.top ts r))
-    (long_starts m ts r long)
-
-long_or_itself : (r : Row) (rows : List Row) → Long r → AllByRecursion Long rows
-    → AllByRecursion Long (or_itself r rows)
-long_or_itself r [] long all = (long, tt)
-long_or_itself r (s ∷ rows) long all = all
+all_long : (m : Meaning) (ts : List TriplePattern) (r : Row) → Long r
+    → AllByRecursion Long (completions m.top ts r)
+all_long m ts r long =
+    all-weaker (Completes m.top ts r) Long (λ s c. c.long ∙ long) (completions m.top ts r)
+    (all-completions m.top ts r long)
 
 -- answers
 
@@ -76,7 +65,8 @@ module _ (m : Meaning) (e : ℕ → Entry) (admits : Admission) (law : Lawful m 
       (or_itself r fits)
       (all-weaker Long (λ s. answers (on s) ≡ filter (passes e g.filter) (extended m e bs s))
       (answers-walk_blocks g bs) (or_itself r fits)
-      (long_or_itself r fits long (long_fitting m (passes e b.filter) b.triples r long)))
+      (all-or_itself Long r fits long
+      (all-fitting Long m (passes e b.filter) b.triples r (all_long m b.triples r long))))
       ∙ sym (filter-flat_map (passes e g.filter) (extended m e bs) (or_itself r fits))
 
   answers-walk_group : (g : Group) → answers (walk_group m e admits g) ≡ rows_of m e g
@@ -88,7 +78,9 @@ module _ (m : Meaning) (e : ℕ → Entry) (admits : Admission) (law : Lawful m 
       (answers-walk_part m admits law (λ _. true) g.required blank refl ∙ filter-true starts)
       ∙ flat_map-same (λ s. answers (on s)) (λ s. filter (passes e g.filter) (extended m e g.blocks s)) starts
       (all-weaker Long (λ s. answers (on s) ≡ filter (passes e g.filter) (extended m e g.blocks s))
-      (answers-walk_blocks g g.blocks) starts (long_starts m g.required blank refl))
+      (answers-walk_blocks g g.blocks) starts
+      (all-filter Long (stored m g.required) (completions m.top g.required blank)
+      (all_long m g.required blank refl)))
       ∙ sym (filter-flat_map (passes e g.filter) (extended m e g.blocks) starts)
 
   answers-walk_from : (a : ℕ) (gs : List Group)

@@ -1,5 +1,5 @@
 use Rattle.query.specs.Shape.{shape}
-use Rattle.algebra.proofs.Orders.{order_is_total}
+use Rattle.algebra.proofs.TotalOrder.{order_is_total}
 use Rattle.algebra.proofs.theorems.order_is_total.Goals as goal
 
 pub returns : goal.returns

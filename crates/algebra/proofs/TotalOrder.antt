@@ -1,9 +1,9 @@
--- The order in which answers come. Assumes nothing.
+-- The order in which answers come is total. Assumes nothing.
 --     Ahead k parts r s     Before, of a list of parts counted from k
-use Rattle.std.proofs.Common.{◌≡◌, ℕ, ◌+◌, ◌<◌, ◌≤◌, true, false, ◌⊎◌, List, [], ◌∷◌, length}
-use Rattle.std.proofs.Common.{slice_index_or, Option, Some, None, inl, inr, ⊎_elim, refl, sym, ap, ap₂, ◌∙◌}
-use Rattle.std.proofs.Common.{subst, subst₂, lt_trans, arith}
-use Rattle.std.proofs.lemmas.Bool.{cases_Bool, cases_eq, cases_lt, cond-true, cond-false}
+use Rattle.std.proofs.Common.{◌≡◌, ℕ, ◌+◌, ◌<◌, true, ◌⊎◌, List, [], ◌∷◌, length, slice_index_or, Option}
+use Rattle.std.proofs.Common.{Some, None, inl, inr, ⊎_elim, refl, sym, ap, ◌∙◌, subst, subst₂, lt_trans}
+use Rattle.std.proofs.Common.{arith}
+use Rattle.std.proofs.lemmas.Bool.{cases_Bool, cases_eq, cases_lt}
 use Rattle.catalogue.specs.Entries.{Entry}
 use Rattle.query.specs.declared.pattern.TriplePattern.{TriplePattern}
 use Rattle.query.specs.Lawful.{mentions}
@@ -15,8 +15,9 @@ use Rattle.algebra.specs.Answers.{Answer}
 use Rattle.algebra.specs.Order.{parts_of, part_from, part_of, no_group, Before, Precedes}
 use Rattle.algebra.specs.Words.{Answered}
 use Rattle.algebra.specs.Theorems.{OrderIsTotal}
-use Rattle.algebra.proofs.Rows.{row-from_values}
-use Rattle.algebra.proofs.Flat.{same-past, Lowest, lowest-cases}
+use Rattle.algebra.proofs.Rows.{row_from_values, answer_from_parts}
+use Rattle.algebra.proofs.Lexical.{Lowest, lowest-cases}
+use Rattle.algebra.proofs.Owners.{part_from-yes, part_from-no, held_from_part, held_from_first}
 
 -- among rows over the parts, of which the first has the number k, r comes before s
 pub record Ahead (k : ℕ) (parts : List (List TriplePattern)) (r s : Row) : Type 0 where
@@ -27,8 +28,8 @@ pub record Ahead (k : ℕ) (parts : List (List TriplePattern)) (r s : Row) : Typ
   pub earlier : (w p : ℕ) → part_from w k parts ≡ Some p → p < part → value r w ≡ value s w
   pub lower : (w : ℕ) → part_from w k parts ≡ Some part → w < variable → value r w ≡ value s w
 
-pub before-ahead : (g : Group) (r s : Row) → Ahead 0 (parts_of g) r s → Before g r s
-before-ahead g r s a = record {
+pub before_from_ahead : (g : Group) (r s : Row) → Ahead 0 (parts_of g) r s → Before g r s
+before_from_ahead g r s a = record {
   part = a.part;
   variable = a.variable;
   own = a.own;
@@ -37,45 +38,17 @@ before-ahead g r s a = record {
   lower = a.lower;
 }
 
--- part_from
-
-module _ (v k : ℕ) (ts : List TriplePattern) (parts : List (List TriplePattern)) where
-  part_from-yes : mentions v ts ≡ true → part_from v k (ts ∷ parts) ≡ Some k
-  part_from-yes t = cond-true (mentions v ts) (Some k) (part_from v (k + 1) parts) t
-
-  part_from-no : mentions v ts ≡ false → part_from v k (ts ∷ parts) ≡ part_from v (k + 1) parts
-  part_from-no f = cond-false (mentions v ts) (Some k) (part_from v (k + 1) parts) f
-
-some-equal : (x y : ℕ) → ◌≡◌ {A = Option ℕ} (Some x) (Some y) → x ≡ y
-some-equal x y e = cc
-
--- the number of a part is one of those counted
-part_from-low : (v k p : ℕ) (parts : List (List TriplePattern)) → part_from v k parts ≡ Some p → k ≤ p
-part_from-low v k p [] e = absurd cc
-part_from-low v k p (ts ∷ parts) e =
-    ⊎_elim
-    (λ t. let same = some-equal k p (sym (part_from-yes v k ts parts t) ∙ e) in omega arith)
-    (λ f. let h = part_from-low v (k + 1) p parts (sym (part_from-no v k ts parts f) ∙ e) in omega arith)
-    (cases_Bool (mentions v ts))
-
 module _ (k : ℕ) (ts : List TriplePattern) (parts : List (List TriplePattern)) (r s : Row) where
-  -- a variable of the first part, or of none before
-  part_from-first : (w : ℕ) → part_from w k (ts ∷ parts) ≡ Some k → mentions w ts ≡ true
-  part_from-first w e =
-      ⊎_elim (λ t. t)
-      (λ f. let low = part_from-low w (k + 1) k parts (sym (part_from-no w k ts parts f) ∙ e) in
-      absurd (omega (arith, low)))
-      (cases_Bool (mentions w ts))
-
   -- the rows differ first within the first part
-  pub ahead-first : Lowest 0 (λ v. mentions v ts) r s → Ahead k (ts ∷ parts) r s
-  ahead-first l = record {
+  pub ahead_from_lowest : Lowest (λ v. mentions v ts) r s → Ahead k (ts ∷ parts) r s
+  ahead_from_lowest l = record {
     part = k;
     variable = l.variable;
     own = part_from-yes l.variable k ts parts l.own;
     smaller = l.smaller;
-    earlier = λ w p e h. let low = part_from-low w k p (ts ∷ parts) e in absurd (omega (arith, low));
-    lower = λ w e h. l.lower w (part_from-first w e) (omega arith) h;
+    earlier = λ w p e h. let (i, at, _, _) = held_from_part w k (ts ∷ parts) p e in
+        absurd (omega (arith, h, at));
+    lower = λ w e h. l.lower w (held_from_first w k ts parts e) h;
   }
 
   -- the rows do not differ within the first part
@@ -85,8 +58,8 @@ module _ (k : ℕ) (ts : List TriplePattern) (parts : List (List TriplePattern))
     same-unless w is e later =
         ⊎_elim (same w) (λ f. later (sym (part_from-no w k ts parts f) ∙ e)) (cases_Bool (mentions w ts))
 
-    pub ahead-later : Ahead (k + 1) parts r s → Ahead k (ts ∷ parts) r s
-    ahead-later a = record {
+    pub ahead_from_later : Ahead (k + 1) parts r s → Ahead k (ts ∷ parts) r s
+    ahead_from_later a = record {
       part = a.part;
       variable = a.variable;
       own = ⊎_elim
@@ -104,8 +77,8 @@ module _ (k : ℕ) (ts : List TriplePattern) (parts : List (List TriplePattern))
 abbrev Sooner : ℕ → ℕ → ℕ → ℕ → Type 0
 Sooner p w k v = (p < k) ⊎ ((p ≡ k) × (w < v))
 
-sooner-then : (p w k v l u : ℕ) → Sooner p w k v → Sooner k v l u → Sooner p w l u
-sooner-then p w k v l u a b =
+sooner_from_two : (p w k v l u : ℕ) → Sooner p w k v → Sooner k v l u → Sooner p w l u
+sooner_from_two p w k v l u a b =
     ⊎_elim
     (λ i. ⊎_elim (λ j. inl (omega (arith, i, j))) (λ j. inl (omega (arith, i, j.0))) b)
     (λ i. ⊎_elim
@@ -135,70 +108,64 @@ module _ (g : Group) where
   before-never r b = omega (arith, b.smaller)
 
   -- the rows agree at each variable that comes before the one at which they differ first
-  before-same : (r s : Row) (b : Before g r s) (w p : ℕ) → part_of g w ≡ Some p
+  equal_from_before : (r s : Row) (b : Before g r s) (w p : ℕ) → part_of g w ≡ Some p
       → Sooner p w b.part b.variable → value r w ≡ value s w
-  before-same r s b w p own =
+  equal_from_before r s b w p own =
       ⊎_elim (b.earlier w p own) (λ h. b.lower w (own ∙ ap (λ k. Some k) h.0) h.1)
 
-  before-at : (r s : Row) (k v : ℕ) → part_of g v ≡ Some k → value r v < value s v
-      → ((w p : ℕ) → part_of g w ≡ Some p → Sooner p w k v → value r w ≡ value s w) → Before g r s
-  before-at r s k v own smaller same = record {
-    part = k;
-    variable = v;
-    own = own;
-    smaller = smaller;
-    earlier = λ w p o h. same w p o (inl h);
-    lower = λ w o h. same w k o (inr (refl, h));
-  }
-
   module _ (r s t : Row) (b : Before g r s) (c : Before g s t) where
-    onward-first : Sooner b.part b.variable c.part c.variable → Before g r t
-    onward-first h =
-        let same = before-same s t c b.variable b.part b.own h in
-        before-at r t b.part b.variable b.own (omega (arith, b.smaller, same))
-        (λ w p o l. before-same r s b w p o l
-        ∙ before-same s t c w p o (sooner-then p w b.part b.variable c.part c.variable l h))
+    -- r is smaller than t at the variable v of part k, before which all three agree
+    before_from_both : (k v : ℕ) → part_of g v ≡ Some k → value r v < value t v
+        → ((w p : ℕ) → Sooner p w k v → Sooner p w b.part b.variable × Sooner p w c.part c.variable)
+        → Before g r t
+    before_from_both k v own smaller both = record {
+      part = k;
+      variable = v;
+      own = own;
+      smaller = smaller;
+      earlier = λ w p o h. agree w p o (both w p (inl h));
+      lower = λ w o h. agree w k o (both w k (inr (refl, h)));
+    }
+      where
+        agree : (w p : ℕ) → part_of g w ≡ Some p
+            → Sooner p w b.part b.variable × Sooner p w c.part c.variable → value r w ≡ value t w
+        agree w p o l = equal_from_before r s b w p o l.0 ∙ equal_from_before s t c w p o l.1
 
-    onward-second : Sooner c.part c.variable b.part b.variable → Before g r t
-    onward-second h =
-        let same = before-same r s b c.variable c.part c.own h in
-        before-at r t c.part c.variable c.own (omega (arith, c.smaller, same))
-        (λ w p o l. before-same r s b w p o (sooner-then p w c.part c.variable b.part b.variable l h)
-        ∙ before-same s t c w p o l)
-
-    onward-both : b.part ≡ c.part → b.variable ≡ c.variable → Before g r t
-    onward-both e i =
-        before-at r t b.part b.variable b.own
-        (lt_trans b.smaller (subst (λ v. value s v < value t v) (sym i) c.smaller))
-        (λ w p o l. before-same r s b w p o l
-        ∙ before-same s t c w p o (subst₂ (λ k v. Sooner p w k v) e i l))
-
-    before-then : Before g r t
-    before-then =
-        ⊎_elim onward-first (⊎_elim onward-second (λ h. onward-both h.0 h.1))
+    before_from_two : Before g r t
+    before_from_two =
+        ⊎_elim
+        (λ h. let same = equal_from_before s t c b.variable b.part b.own h in
+        before_from_both b.part b.variable b.own (omega (arith, b.smaller, same))
+        (λ w p l. (l, sooner_from_two p w b.part b.variable c.part c.variable l h)))
+        (⊎_elim
+        (λ h. let same = equal_from_before r s b c.variable c.part c.own h in
+        before_from_both c.part c.variable c.own (omega (arith, c.smaller, same))
+        (λ w p l. (sooner_from_two p w c.part c.variable b.part b.variable l h, l)))
+        (λ h. before_from_both b.part b.variable b.own
+        (lt_trans b.smaller (subst (λ v. value s v < value t v) (sym h.1) c.smaller))
+        (λ w p l. (l, subst₂ (λ k v. Sooner p w k v) h.0 h.1 l))))
         (sooner-cases b.part b.variable c.part c.variable)
 
 -- rows that agree at the variables of all parts, or one of them comes first
 
 module _ (r s : Row) (one : length r ≡ variables) (two : length s ≡ variables) where
+  -- part by part: the first at whose variables the rows do not agree decides
   ahead-cases : (k : ℕ) (parts : List (List TriplePattern))
       → ((v p : ℕ) → part_from v k parts ≡ Some p → value r v ≡ value s v)
       ⊎ (Ahead k parts r s ⊎ Ahead k parts s r)
   ahead-cases k [] = inl (λ v p e. absurd cc)
   ahead-cases k (ts ∷ parts) =
       ⊎_elim
-      (λ agree. let same : (v : ℕ) → mentions v ts ≡ true → value r v ≡ value s v =
-      (λ v t. ⊎_elim (agree v t (omega arith)) (same-past r s one two v) (cases_lt v variables)) in
-      ⊎_elim
+      (λ same. ⊎_elim
       (λ rest. inl (λ v p e. same-unless k ts parts r s same v (Some p) e (rest v p)))
       (⊎_elim
-      (λ a. inr (inl (ahead-later k ts parts r s same a)))
-      (λ a. inr (inr (ahead-later k ts parts s r (λ v t. sym (same v t)) a))))
+      (λ a. inr (inl (ahead_from_later k ts parts r s same a)))
+      (λ a. inr (inr (ahead_from_later k ts parts s r (λ v t. sym (same v t)) a))))
       (ahead-cases (k + 1) parts))
       (⊎_elim
-      (λ l. inr (inl (ahead-first k ts parts r s l)))
-      (λ l. inr (inr (ahead-first k ts parts s r l))))
-      (lowest-cases (λ v. mentions v ts) r s 0 variables)
+      (λ l. inr (inl (ahead_from_lowest k ts parts r s l)))
+      (λ l. inr (inr (ahead_from_lowest k ts parts s r l))))
+      (lowest-cases (λ v. mentions v ts) r s one two)
 
   -- rows that have no values elsewhere
   before-cases : (g : Group) → ((v : ℕ) → part_of g v ≡ None → value r v ≡ none)
@@ -208,15 +175,11 @@ module _ (r s : Row) (one : length r ≡ variables) (two : length s ≡ variable
       (λ same. let by : (v : ℕ) (o : Option ℕ) → part_of g v ≡ o → value r v ≡ value s v =
       (λ v o. elim o as (λ o. part_of g v ≡ o → value r v ≡ value s v)
       [ None ↦ λ e. h v e ∙ sym (k v e) | Some p ↦ λ e. same v p e ]) in
-      inl (row-from_values r s (one ∙ sym two) (λ v. by v (part_of g v) refl)))
-      (⊎_elim (λ a. inr (inl (before-ahead g r s a))) (λ a. inr (inr (before-ahead g s r a))))
+      inl (row_from_values r s (one ∙ sym two) (λ v. by v (part_of g v) refl)))
+      (⊎_elim (λ a. inr (inl (before_from_ahead g r s a))) (λ a. inr (inr (before_from_ahead g s r a))))
       (ahead-cases 0 (parts_of g))
 
 -- Precedes
-
-pub same-answer : (a b : Answer) → a.alternative ≡ b.alternative → a.row ≡ b.row → a ≡ b
-same-answer a b p q =
-    let of : ℕ → Row → Answer = (λ n r. record { alternative = n; row = r }) in ap₂ of p q
 
 module _ (q : List Group) where
   -- the alternative of an answer
@@ -226,14 +189,14 @@ module _ (q : List Group) where
   pub precedes-never : (a : Answer) → Precedes q a a → ⊥
   precedes-never a = ⊎_elim (λ l. omega (arith, l)) (λ b. before-never (group a.alternative) a.row b.1)
 
-  precedes-then : (a b c : Answer) → Precedes q a b → Precedes q b c → Precedes q a c
-  precedes-then a b c h k =
+  precedes_from_two : (a b c : Answer) → Precedes q a b → Precedes q b c → Precedes q a c
+  precedes_from_two a b c h k =
       ⊎_elim
       (λ i. ⊎_elim (λ j. inl (omega (arith, i, j))) (λ j. inl (omega (arith, i, j.0))) k)
       (λ i. ⊎_elim (λ j. inl (omega (arith, i.0, j)))
       (λ j. inr (
         i.0 ∙ j.0,
-        before-then (group a.alternative) a.row b.row c.row i.1
+        before_from_two (group a.alternative) a.row b.row c.row i.1
             (subst (λ n. Before (group n) b.row c.row) (sym i.0) j.1),
       )) k)
       h
@@ -246,7 +209,7 @@ module _ (q : List Group) where
         (λ l. inr (inl (inl l)))
         (λ l. ⊎_elim
         (λ i. ⊎_elim
-        (λ r. inl (same-answer a b i r))
+        (λ r. inl (answer_from_parts a b i r))
         (⊎_elim (λ c. inr (inl (inr (i, c))))
         (λ c. inr (inr (inr (sym i, subst (λ n. Before (group n) b.row a.row) i c)))))
         (before-cases a.row b.row h.long k.long (group a.alternative) h.others
@@ -256,4 +219,4 @@ module _ (q : List Group) where
         (cases_lt a.alternative b.alternative)
 
     pub order_is_total : OrderIsTotal m e q
-    order_is_total = record { never = precedes-never; onward = precedes-then; either = precedes-cases }
+    order_is_total = record { never = precedes-never; onward = precedes_from_two; either = precedes-cases }

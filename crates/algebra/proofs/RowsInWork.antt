@@ -2,10 +2,9 @@
 -- the next one of it. Assumes nothing.
 --     Worked g k s          a row that may be in work when the first k blocks are done
 --     Asked m e g r i       what block number i asks of an answer
-use Rattle.std.proofs.Common.{◌≡◌, ℕ, ◌+◌, ◌<◌, ◌≤◌, true, false, ◌⊎◌, ◌≢◌, List, length, Some, None, Option}
-use Rattle.std.proofs.Common.{sym, ap, ◌∙◌, subst, inl, inr, ⊎_elim, arith}
-use Rattle.std.proofs.lemmas.Bool.{both_ways, cases_lt, cases_eq}
-use Rattle.std.proofs.lemmas.List.{get_or_past}
+use Rattle.std.proofs.Common.{◌≡◌, ℕ, ◌+◌, ◌<◌, false, ◌⊎◌, ◌≢◌, List, length, Some, None, Option, sym, ap}
+use Rattle.std.proofs.Common.{◌∙◌, inl, inr, ⊎_elim, arith}
+use Rattle.std.proofs.lemmas.Bool.{both_ways, cases_eq}
 use Rattle.catalogue.specs.Entries.{Entry}
 use Rattle.query.specs.Lawful.{mentions, shares}
 use Rattle.query.specs.Limits.{variables}
@@ -15,12 +14,13 @@ use Rattle.filter.specs.Rows.{Row, none, value}
 use Rattle.filter.specs.Filters.{passes}
 use Rattle.algebra.specs.Order.{part_of}
 use Rattle.algebra.specs.Words.{reached, upto, Extended, Left}
+use Rattle.algebra.specs.Admissions.{Completes}
+use Rattle.algebra.proofs.Rows.{value-past}
+use Rattle.algebra.proofs.Completions.{Open, kept_from_completes}
 use Rattle.algebra.proofs.Listing.{fitting}
-use Rattle.algebra.proofs.Assignments.{among-open, among-open_back}
-use Rattle.algebra.proofs.Owners.{block_at, block_holds, block_owns}
-use Rattle.algebra.proofs.Phrases.{reached_part, reached_more, reached_above, reached_less-no, upto_kept}
-use Rattle.algebra.proofs.Phrases.{upto_is}
-use Rattle.algebra.proofs.Fillings.{Filled}
+use Rattle.algebra.proofs.Owners.{block_at, held_from_block, owner_from_held, same_part}
+use Rattle.algebra.proofs.Upto.{reached-low, reached-more, reached-high, reached-fewer, value-upto_reached}
+use Rattle.algebra.proofs.Upto.{upto_from_values}
 
 -- the variables of the required triples have values, those that belong to parts after k have none
 pub record Worked (g : Group) (k : ℕ) (s : Row) : Type 0 where
@@ -29,79 +29,76 @@ pub record Worked (g : Group) (k : ℕ) (s : Row) : Type 0 where
   pub required : (v : ℕ) → part_of g v ≡ Some 0 → value s v ≢ none
 
 -- a variable belongs to the part, or it does not
-pub cases_part : (o : Option ℕ) (k : ℕ) → (o ≡ Some k) ⊎ (o ≡ Some k → ⊥)
+cases_part : (o : Option ℕ) (k : ℕ) → (o ≡ Some k) ⊎ (o ≡ Some k → ⊥)
 cases_part None k = inr (λ e. cc)
 cases_part (Some j) k =
     ⊎_elim (λ e. inl (ap Some e)) (λ n. inr (λ e. let same : j ≡ k = cc in n same)) (cases_eq j k)
 
--- two parts of one variable are the same
-one_part : (o : Option ℕ) (j k : ℕ) → o ≡ Some j → o ≡ Some k → j ≡ k
-one_part o j k e f = cc
-
 -- a term is not none
-pub term_some : (top x : ℕ) → Term top x → x ≡ none → ⊥
-term_some top x t e = omega arith
+pub some_from_term : (top x : ℕ) → Term top x → x ≡ none → ⊥
+some_from_term top x t e = omega arith
 
 module _ (g : Group) (k : ℕ) (s : Row) (w : Worked g k s) where
   -- a variable of the next block has no value
-  pub own_free : (v : ℕ) → part_of g v ≡ Some (k + 1) → value s v ≡ none
-  own_free v own = w.later v (reached_above k (k + 1) (part_of g v) own (omega arith))
+  pub value-own : (v : ℕ) → part_of g v ≡ Some (k + 1) → value s v ≡ none
+  value-own v own = w.later v (reached-high k (k + 1) (part_of g v) own (omega arith))
 
   -- a row that differs from s at most at the next block's own variables may be in work behind that block
-  pub worked_next : (t : Row) → length t ≡ variables
+  pub worked-next : (t : Row) → length t ≡ variables
       → ((v : ℕ) → (part_of g v ≡ Some (k + 1) → ⊥) → value t v ≡ value s v) → Worked g (k + 1) t
-  worked_next t long kept =
+  worked-next t long kept =
       record {
         long = long;
         later = λ v far. kept v (λ own. both_ways (reached (k + 1) (part_of g v)) far
-            (reached_part (k + 1) (k + 1) (part_of g v) own (omega arith)))
-            ∙ w.later v (reached_less-no k (part_of g v) far);
+            (reached-low (k + 1) (k + 1) (part_of g v) own (omega arith)))
+            ∙ w.later v (reached-fewer k (part_of g v) far);
         required = λ v first e. w.required v first (sym (kept v (λ own.
-            let never = one_part (part_of g v) 0 (k + 1) first own in omega arith)) ∙ e);
+            let never = same_part (part_of g v) 0 (k + 1) first own in omega arith)) ∙ e);
       }
 
   -- and if it is what r is up to that block, then s is what r is up to the block before
-  pub upto_before : (r t : Row) → length r ≡ variables
+  pub upto_from_next : (r t : Row) → length r ≡ variables
       → ((v : ℕ) → (part_of g v ≡ Some (k + 1) → ⊥) → value t v ≡ value s v) → upto g (k + 1) r ≡ t
       → upto g k r ≡ s
-  upto_before r t long kept e =
-      upto_is g k r s long w.long
-      (λ v h. sym (upto_kept g (k + 1) r v long (reached_more k (part_of g v) h))
+  upto_from_next r t long kept e =
+      upto_from_values g k r s long w.long
+      (λ v h. sym (value-upto_reached g (k + 1) r v long (reached-more k (part_of g v) h))
       ∙ ap (λ u. value u v) e
       ∙ kept v (λ own. both_ways (reached k (part_of g v))
-      (reached_above k (k + 1) (part_of g v) own (omega arith)) h))
+      (reached-high k (k + 1) (part_of g v) own (omega arith)) h))
       w.later
 
   module _ (apart : shares g ≡ false) (low : k < length g.blocks) where
     -- what the next block's triples leave open in s are its own variables
-    open_own : (v : ℕ) → v < variables → mentions v (block_at g k).triples ≡ true → value s v ≡ none
-        → part_of g v ≡ Some (k + 1)
-    open_own v small there free =
-        ⊎_elim (λ first. absurd (w.required v first free)) (λ own. own)
-        (block_owns g apart k v small low there)
+    open_own : (v : ℕ) → Open (block_at g k).triples s v → part_of g v ≡ Some (k + 1)
+    open_own v o =
+        ⊎_elim (λ first. absurd (w.required v first o.valueless)) (λ own. own)
+        (owner_from_held g apart k v o.inside low o.held)
 
-    pub filled_kept : (top : ℕ) (t : Row) → Filled top (block_at g k).triples s t → (v : ℕ)
+    -- so what completes s for them changes nothing else
+    pub others_from_completes : (top : ℕ) (t : Row) → Completes top (block_at g k).triples s t → (v : ℕ)
         → (part_of g v ≡ Some (k + 1) → ⊥) → value t v ≡ value s v
-    filled_kept top t f v other =
-        f.kept v (λ h. let o = among-open_back (block_at g k).triples s v h in
-        other (open_own v o.inside o.held o.valueless))
+    others_from_completes top t c v other =
+        kept_from_completes top (block_at g k).triples s t c v (λ o. other (open_own v o))
 
-    pub filled_from : (top : ℕ) (t : Row) → length t ≡ variables
+    -- terms for the block's own variables complete s for its triples: those are what they leave open
+    pub completes_from_own : (top : ℕ) (t : Row) → length t ≡ variables
         → ((v : ℕ) → part_of g v ≡ Some (k + 1) → Term top (value t v))
         → ((v : ℕ) → (part_of g v ≡ Some (k + 1) → ⊥) → value t v ≡ value s v)
-        → Filled top (block_at g k).triples s t
-    filled_from top t long own others =
+        → Completes top (block_at g k).triples s t
+    completes_from_own top t long own others =
         record {
           long = long ∙ sym w.long;
-          given = λ v h. let o = among-open_back (block_at g k).triples s v h in
-              own v (open_own v o.inside o.held o.valueless);
-          kept = λ v shut. ⊎_elim
-              (λ mine. ⊎_elim
-              (λ small. absurd (shut (among-open (block_at g k).triples s v small ((block_holds g k v mine).1)
-              (own_free v mine))))
-              (λ high. absurd (term_some top (value t v) (own v mine)
-              (get_or_past t v none (subst (λ n. n ≤ v) (sym long) high))))
-              (cases_lt v variables))
+          given = λ v small held free.
+              own v (open_own v (record { inside = small; held = held; valueless = free }));
+          kept = λ v h. ⊎_elim
+              (λ mine. absurd (⊎_elim
+              (λ past. some_from_term top (value t v) (own v mine)
+              (value-past t v (omega (arith, long, past))))
+              (⊎_elim
+              (λ lacks. both_ways (mentions v (block_at g k).triples) lacks ((held_from_block g k v mine).1))
+              (λ some. some (value-own v mine)))
+              h))
               (others v) (cases_part (part_of g v) (k + 1));
         }
 
