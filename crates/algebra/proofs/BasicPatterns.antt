@@ -6,6 +6,7 @@ use Rattle.algebra.specs.Answers.{times}
 use Rattle.algebra.specs.Patterns.{blank, stored, completions}
 use Rattle.algebra.specs.Theorems.{BasicPatterns}
 use Rattle.algebra.proofs.Rows.{length-blank, member_from_times}
+use Rattle.algebra.proofs.Patterns.{stored_from_all}
 use Rattle.algebra.proofs.Completions.{completions-once}
 use Rattle.algebra.proofs.Fitting.{completes_from_stored}
 use Rattle.algebra.proofs.Cardinalities.{times-filter}
@@ -14,7 +15,7 @@ pub basic_patterns : BasicPatterns
 basic_patterns m ts r =
     let rows = completions m.top ts blank in (
       (λ c held. times-filter (stored m ts) rows r
-          ∙ cond-true (stored m ts r) (times r rows) 0 held
+          ∙ cond-true (stored m ts r) (times r rows) 0 (stored_from_all m ts r held)
           ∙ completions-once m.top ts blank length-blank r c),
       (λ h. completes_from_stored m ts blank r length-blank (member_from_times r (bgp m ts) h)),
     )

@@ -9,7 +9,7 @@ use Rattle.query.specs.declared.pattern.TriplePattern.{TriplePattern}
 use Rattle.query.specs.Lawful.{mentions}
 use Rattle.query.specs.Limits.{variables}
 use Rattle.filter.specs.Rows.{Row, none, value, has_value}
-use Rattle.algebra.specs.Patterns.{with_value, numbers, open_variables, completions}
+use Rattle.algebra.specs.Patterns.{with_value, all_variables, open_variables, completions}
 use Rattle.algebra.specs.Answers.{times}
 use Rattle.algebra.specs.Admissions.{Completes}
 use Rattle.algebra.specs.Order.{Ascending}
@@ -37,15 +37,15 @@ module _ (ts : List TriplePattern) (r : Row) where
 
   pub member-open : (v : ℕ) → Open ts r v → Member v (open_variables ts r)
   member-open v o =
-      member-filter lacking v numbers
+      member-filter lacking v all_variables
       (and_from (mentions v ts) (not (has_value r v)) o.held (ap not (has_value-none r v o.valueless)))
       (member-range 0 variables v (omega arith) (omega (arith, o.inside)))
 
   pub open_from_member : (v : ℕ) → Member v (open_variables ts r) → Open ts r v
   open_from_member v h =
-      let (there, passes) = member_from_filter lacking v numbers h in
+      let (there, passes) = member_from_filter lacking v all_variables h in
       let (held, free) = and_parts (mentions v ts) (not (has_value r v)) passes in
-      let bound = has_from_member (λ x. (0 ≤ x) × (x < 0 + variables)) v numbers (all-range 0 variables)
+      let bound = has_from_member (λ x. (0 ≤ x) × (x < 0 + variables)) v all_variables (all-range 0 variables)
       there in
       record {
         inside = omega (arith, bound.1);
@@ -55,10 +55,10 @@ module _ (ts : List TriplePattern) (r : Row) where
 
   pub rising-open : length r ≡ variables → Rising (length r) (open_variables ts r)
   rising-open long = (
-    all-filter (λ v. v < length r) lacking numbers
+    all-filter (λ v. v < length r) lacking all_variables
         (all-weaker (λ x. (0 ≤ x) × (x < 0 + variables)) (λ v. v < length r)
-        (λ v h. omega (arith, h.1, long)) numbers (all-range 0 variables)),
-    ascending-filter (λ v w. v < w) lacking numbers (ascending-range 0 variables),
+        (λ v h. omega (arith, h.1, long)) all_variables (all-range 0 variables)),
+    ascending-filter (λ v w. v < w) lacking all_variables (ascending-range 0 variables),
   )
 
 -- with a value for the first open variable, the others are open
@@ -67,7 +67,7 @@ pub open_variables-rest : (ts : List TriplePattern) (r : Row) (v x : ℕ) (vs : 
 open_variables-rest ts r v x vs long e some =
     let first = open_from_member ts r v (subst (Member v) (sym e) (inl refl)) in
     let own = value-with_same r v x (omega (arith, long, first.inside)) in
-    filter-rest (lacking ts r) (lacking ts (with_value r v x)) numbers v vs (ascending-range 0 variables) e
+    filter-rest (lacking ts r) (lacking ts (with_value r v x)) all_variables v vs (ascending-range 0 variables) e
     (λ w ne. ap (λ y. mentions w ts && not (not (eqb y none))) (sym (value-with_other r v x w ne)))
     (and_right (mentions v ts) (not (has_value (with_value r v x) v))
     (ap not (has_value-some (with_value r v x) v (omega (arith, own, some)))))

@@ -1,6 +1,6 @@
 -- The rows that a part fits, among the completions of a row: what holds of all of them, and which they are.
 -- Assumes nothing.
-use Rattle.std.proofs.Common.{◌≡◌, ℕ, Bool, true, List, [], ◌∷◌, length, ◌⊎◌, ⊎_elim, inl, inr, refl}
+use Rattle.std.proofs.Common.{◌≡◌, ℕ, Bool, List, [], ◌∷◌, length, ◌⊎◌, ⊎_elim, inl, inr, refl}
 use Rattle.std.specs.List.{filter, AllByRecursion}
 use Rattle.catalogue.specs.Entries.{Entry}
 use Rattle.query.specs.declared.pattern.TriplePattern.{TriplePattern}
@@ -9,13 +9,14 @@ use Rattle.query.specs.Parts.{Part}
 use Rattle.triples.specs.Meaning.{Meaning}
 use Rattle.filter.specs.Rows.{Row}
 use Rattle.filter.specs.Filters.{passes}
-use Rattle.algebra.specs.Patterns.{stored, completions, open_variables}
+use Rattle.algebra.specs.Patterns.{stored, Stored, completions, open_variables}
 use Rattle.algebra.specs.Admissions.{Completes}
 use Rattle.algebra.specs.Order.{Ascending}
 use Rattle.algebra.specs.Words.{Fits}
 use Rattle.algebra.proofs.Lists.{all-filter}
 use Rattle.algebra.proofs.Members.{Member, has_from_member, member-filter, member_from_filter}
 use Rattle.algebra.proofs.Ascents.{ascending-filter}
+use Rattle.algebra.proofs.Patterns.{all_from_stored, stored_from_all}
 use Rattle.algebra.proofs.Lexical.{Less}
 use Rattle.algebra.proofs.Completions.{ascending-completions, all-completions, member-completions}
 use Rattle.algebra.proofs.Listing.{fitting, or_itself}
@@ -49,16 +50,18 @@ all-or_itself P r (s ∷ rows) h k = k
 
 module _ (m : Meaning) (ts : List TriplePattern) (r s : Row) where
   pub completes_from_stored : length r ≡ variables → Member s (filter (stored m ts) (completions m.top ts r))
-      → Completes m.top ts r s × (stored m ts s ≡ true)
+      → Completes m.top ts r s × Stored m ts s
   completes_from_stored long h =
       let (there, held) = member_from_filter (stored m ts) s (completions m.top ts r) h in
-      let all = all-completions m.top ts r long in
-      (has_from_member (Completes m.top ts r) s (completions m.top ts r) all there, held)
+      let all = all-completions m.top ts r long in (
+        has_from_member (Completes m.top ts r) s (completions m.top ts r) all there,
+        all_from_stored m ts s held,
+      )
 
-  pub member-stored : Completes m.top ts r s → stored m ts s ≡ true
+  pub member-stored : Completes m.top ts r s → Stored m ts s
       → Member s (filter (stored m ts) (completions m.top ts r))
   member-stored c held =
-      member-filter (stored m ts) s (completions m.top ts r) held (member-completions m.top ts r s c)
+      member-filter (stored m ts) s (completions m.top ts r) (stored_from_all m ts s held) (member-completions m.top ts r s c)
 
 -- fitting
 

@@ -23,7 +23,7 @@ use Rattle.algebra.proofs.Members.{member_from_map}
 use Rattle.algebra.proofs.Ascents.{ascending-filter}
 use Rattle.algebra.proofs.Rows.{equal_past, value-blank, length-blank, row_from_values, same_row_decides}
 use Rattle.algebra.proofs.Rows.{equal_from_same_row, times_from_member, member_from_times}
-use Rattle.algebra.proofs.Patterns.{stored-same, lent, length-lent, value-lent_own, value-lent_other}
+use Rattle.algebra.proofs.Patterns.{stored_from_same, lent, length-lent, value-lent_own, value-lent_other}
 use Rattle.algebra.proofs.Lexical.{Less, times-ascending}
 use Rattle.algebra.proofs.Fitting.{ascending-stored, completes_from_stored, member-stored}
 use Rattle.algebra.proofs.Merging.{agree-none, agree-with_none, agree-same, either-bound, either-none}
@@ -89,7 +89,7 @@ module _ (m : Meaning) (ts : List TriplePattern) (r : Row) (valid : Valid m.top 
       let (c, held) = completes_from_stored m ts blank u length-blank solution in
       subst (λ t. Member t (filter (stored m ts) (completions m.top ts r))) (sym is)
       (member-stored m ts r (merge r u) (completes-merge u c fits)
-      (stored-same m ts (merge r u) u (value-merge_own u c fits) ∙ held))
+      (stored_from_same m ts (merge r u) u (value-merge_own u c fits) held))
 
   -- of which solution a completion is the merge: the row with its values for the variables of the patterns
 
@@ -145,7 +145,7 @@ module _ (m : Meaning) (ts : List TriplePattern) (r : Row) (valid : Valid m.top 
       subst (λ t. Member t (merges m ts r)) (merge-solution s done)
       (member-map (merge r) u (filter (compatible r) (bgp m ts))
       (member-filter (compatible r) u (bgp m ts) (compatible-solution s done)
-      (member-stored m ts blank u (completes-solution s done) (stored-same m ts u s (own s done) ∙ held))))
+      (member-stored m ts blank u (completes-solution s done) (stored_from_same m ts u s (own s done) held))))
 
   -- the solution is all that the merge is of
   solution_from_merge : (s t : Row) → Completes m.top ts blank t → compatible r t ≡ true → s ≡ merge r t

@@ -9,7 +9,7 @@ use Rattle.std.specs.List.{filter, AllByRecursion}
 use Rattle.query.specs.Limits.{variables}
 use Rattle.triples.specs.Meaning.{first_term}
 use Rattle.filter.specs.Rows.{Row, value}
-use Rattle.algebra.specs.Patterns.{with_value, numbers, terms, assignments}
+use Rattle.algebra.specs.Patterns.{with_value, all_variables, terms, assignments}
 use Rattle.algebra.specs.Order.{Ascending}
 use Rattle.algebra.specs.Answers.{same_row, times}
 use Rattle.algebra.proofs.Lists.{all-weaker, all-every}
@@ -84,12 +84,12 @@ lowest_from_less p r s (v ∷ vs) up own same h =
 pub lowest-cases : (p : ℕ → Bool) (r s : Row) → length r ≡ variables → length s ≡ variables
     → ((v : ℕ) → p v ≡ true → value r v ≡ value s v) ⊎ (Lowest p r s ⊎ Lowest p s r)
 lowest-cases p r s one two =
-    let vs = filter p numbers in
-    let up = ascending-filter (λ x y. x < y) p numbers (ascending-range 0 variables) in
-    let own : (v : ℕ) → Member v vs → p v ≡ true = (λ v i. (member_from_filter p v numbers i).1) in
+    let vs = filter p all_variables in
+    let up = ascending-filter (λ x y. x < y) p all_variables (ascending-range 0 variables) in
+    let own : (v : ℕ) → Member v vs → p v ≡ true = (λ v i. (member_from_filter p v all_variables i).1) in
     let past = equal_past r s variables one two in
     let there : (v : ℕ) → p v ≡ true → v < variables → Member v vs =
-    (λ v t l. member-filter p v numbers t (member-range 0 variables v (omega arith) (omega (arith, l)))) in
+    (λ v t l. member-filter p v all_variables t (member-range 0 variables v (omega arith) (omega (arith, l)))) in
     let outside : (v : ℕ) → p v ≡ true → (Member v vs → ⊥) → value r v ≡ value s v =
     (λ v t out. ⊎_elim (λ l. absurd (out (there v t l))) (past v) (cases_lt v variables)) in
     ⊎_elim

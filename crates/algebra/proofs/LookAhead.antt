@@ -1,5 +1,5 @@
 -- What the look-ahead asks of a pattern: that some triple of the store matches it. Assumes nothing.
---     look_ahead_in_words     a pattern is possible exactly if a triple of the store matches it
+--     look_ahead_in_words     it admits a value exactly if the triples of the part are each matched
 use Rattle.std.proofs.Common.{◌≡◌, ℕ, ◌<◌, true, false, cond, not, ◌≢◌, leb, List, [], ◌∷◌, map, length, refl}
 use Rattle.std.proofs.Common.{sym, ap, ◌∙◌, subst, inl, inr, ⊎_elim, arith}
 use Rattle.std.proofs.lemmas.Bool.{cases_lt, cond-true, and_parts, and_from, or_from, or_parts, cases_eq}
@@ -15,18 +15,18 @@ use Rattle.query.specs.Parts.{Group}
 use Rattle.query.specs.Limits.{variables, most_variable, most_term, most_in_part, within, lawful_place}
 use Rattle.query.proofs.Limits.{group_limits, query_limits}
 use Rattle.triples.specs.declared.triple.Triple.{Triple}
-use Rattle.triples.specs.Meaning.{Meaning, Sound, Term, Terms}
+use Rattle.triples.specs.Meaning.{Meaning, Sound, Term, Terms, term}
 use Rattle.filter.specs.Rows.{Row, none, value, number_at}
-use Rattle.algebra.specs.Patterns.{triple_under, stored, numbers, completions}
-use Rattle.algebra.specs.Admissions.{Completes, Allows, Matches}
+use Rattle.algebra.specs.Patterns.{with_value, triple_under, stored, all_variables, completions}
+use Rattle.algebra.specs.Admissions.{Completes, Allows, Matches, possible}
 use Rattle.algebra.specs.Order.{parts_of}
-use Rattle.algebra.specs.Theorems.{PossibleInWords, LookAheadInWords, patterns_of}
+use Rattle.algebra.specs.Theorems.{Matched, AdmitsMatched, LookAheadInWords}
 use Rattle.algebra.proofs.Lists.{all-map, all-flat_map, all_from_list_all}
 use Rattle.algebra.proofs.Members.{has_from_member, member_from_any}
-use Rattle.algebra.proofs.Rows.{equal_past, value-map}
+use Rattle.algebra.proofs.Rows.{equal_past, value-map, length-with_value}
 use Rattle.algebra.proofs.Patterns.{in_triple, in_subject, in_property, in_object}
 use Rattle.algebra.proofs.Completions.{all-completions}
-use Rattle.algebra.proofs.Pruning.{possible_from_stored}
+use Rattle.algebra.proofs.Pruning.{possible_from_stored, term_from_bounds, bounds_from_term}
 
 -- places and triples
 
@@ -84,7 +84,7 @@ picked r t u v =
 
 -- that row
 abbrev filled : Row → TriplePattern → Triple → Row
-filled r t u = map (picked r t u) numbers
+filled r t u = map (picked r t u) all_variables
 
 module _ (r : Row) (t : TriplePattern) (u : Triple) where
   picked-each : (v : ℕ) (P : ℕ → Type 0) → (is_variable v t.subject ≡ true → P u.subject)
@@ -177,49 +177,78 @@ module _ (r : Row) (t : TriplePattern) (u : Triple) (matches : Matches r t u) wh
   }
 
 -- a pattern is possible exactly if some triple of the store matches it
-possible_in_words : (m : Meaning) (t : TriplePattern) → Sound m → lawful_triple t ≡ true → PossibleInWords m t
-possible_in_words m t sound lawful r long = (
-  λ h. let (s, there, held) = member_from_any (stored m (t ∷ [])) (completions m.top (t ∷ []) r) h in
+
+module _ (m : Meaning) (t : TriplePattern) (r : Row) (long : length r ≡ variables) where
+  matched_from_possible : possible m r t ≡ true → Matched m r t
+  matched_from_possible h =
+      let (s, there, held) = member_from_any (stored m (t ∷ [])) (completions m.top (t ∷ []) r) h in
       let done = has_from_member (Completes m.top (t ∷ []) r) s (completions m.top (t ∷ []) r)
       (all-completions m.top (t ∷ []) r long) there in (
         triple_under s t,
         (and_parts (m.has (triple_under s t)) true held).0,
         matches_from_completes m.top (t ∷ []) r s done t,
-      ),
-  λ u has matches.
+      )
+
+  possible_from_matched : Sound m → lawful_triple t ≡ true → Matched m r t → possible m r t ≡ true
+  possible_from_matched sound lawful (u, has, matches) =
       possible_from_stored m (t ∷ []) r (filled r t u)
       (completes-filled r t u matches m.top (sound.terms u has) long) t (λ v h. h)
       (and_from (m.has (triple_under (filled r t u) t)) true
-      (ap m.has (triple_under-filled r t u matches lawful) ∙ has) refl),
-)
+      (ap m.has (triple_under-filled r t u matches lawful) ∙ has) refl)
 
--- the patterns of a query
+-- the patterns of a part
 
-module _ (P : TriplePattern → Type 0) (has : (t : TriplePattern) → lawful_triple t ≡ true → P t) where
-  all-part : (least : ℕ) (ts : List TriplePattern) → lawful_triples least ts ≡ true → AllByRecursion P ts
-  all-part least ts h =
-      all_from_list_all P lawful_triple has ts
-      (and_parts (within least most_in_part (length ts)) (list_all lawful_triple ts) h).1
+module _ (m : Meaning) (r : Row) (long : length r ≡ variables) where
+  all-matched : (ts : List TriplePattern) → list_all (possible m r) ts ≡ true
+      → AllByRecursion (Matched m r) ts
+  all-matched ts h =
+      all_from_list_all (Matched m r) (possible m r) (λ t. matched_from_possible m t r long) ts h
 
-  all-parts : (g : Group) → lawful_group g ≡ true → AllByRecursion P (flat_map (λ ts. ts) (parts_of g))
+  list_all-matched : Sound m → (ts : List TriplePattern) → list_all lawful_triple ts ≡ true
+      → AllByRecursion (Matched m r) ts → list_all (possible m r) ts ≡ true
+  list_all-matched sound [] lawful h = refl
+  list_all-matched sound (t ∷ ts) lawful h =
+      let (first, rest) = and_parts (lawful_triple t) (list_all lawful_triple ts) lawful in
+      and_from (possible m r t) (list_all (possible m r) ts)
+      (possible_from_matched m t r long sound first h.0) (list_all-matched sound ts rest h.1)
+
+admits_matched : (m : Meaning) → Sound m → (ts : List TriplePattern) → list_all lawful_triple ts ≡ true
+    → AdmitsMatched m ts
+admits_matched m sound ts lawful r v x long =
+    let s = with_value r v x in
+    let longs = length-with_value r v x ∙ long in (
+      (λ h. let (is, each) = and_parts (term m.top x) (list_all (possible m s) ts) h in
+          (bounds_from_term m.top x is, all-matched m s longs ts each)),
+      (λ t h. and_from (term m.top x) (list_all (possible m s) ts) (term_from_bounds m.top x t)
+          (list_all-matched m s longs sound ts lawful h)),
+    )
+
+-- the parts of a query
+
+module _ (P : List TriplePattern → Type 0)
+    (has : (ts : List TriplePattern) → list_all lawful_triple ts ≡ true → P ts) where
+  part-has : (least : ℕ) (ts : List TriplePattern) → lawful_triples least ts ≡ true → P ts
+  part-has least ts h =
+      has ts (and_parts (within least most_in_part (length ts)) (list_all lawful_triple ts) h).1
+
+  all-parts : (g : Group) → lawful_group g ≡ true → AllByRecursion P (parts_of g)
   all-parts g h =
-      let l = group_limits g h in
-      all-flat_map P (λ ts. ts) (parts_of g) (
-        all-part 0 g.required l.required,
-        all-map (AllByRecursion P) (λ b. b.triples) g.blocks
-            (all_from_list_all (λ b. AllByRecursion P b.triples) lawful_part
-            (λ b k. all-part 1 b.triples
+      let l = group_limits g h in (
+        part-has 0 g.required l.required,
+        all-map P (λ b. b.triples) g.blocks
+            (all_from_list_all (λ b. P b.triples) lawful_part
+            (λ b k. part-has 1 b.triples
             (and_parts (lawful_triples 1 b.triples) (lawful_filter b.filter) k).0)
             g.blocks l.blocks),
       )
 
-  all-patterns : (q : List Group) → list_all lawful_group q ≡ true → AllByRecursion P (patterns_of q)
-  all-patterns q h =
-      all-flat_map P (λ g. flat_map (λ ts. ts) (parts_of g)) q
-      (all_from_list_all (λ g. AllByRecursion P (flat_map (λ ts. ts) (parts_of g))) lawful_group all-parts
-      q h)
+  all-query_parts : (q : List Group) → list_all lawful_group q ≡ true
+      → AllByRecursion P (flat_map parts_of q)
+  all-query_parts q h =
+      all-flat_map P parts_of q
+      (all_from_list_all (λ g. AllByRecursion P (parts_of g)) lawful_group all-parts q h)
 
 pub look_ahead_in_words : (m : Meaning) (q : List Group) → Sound m → lawful q ≡ true → LookAheadInWords m q
 look_ahead_in_words m q sound h =
-    all-patterns (PossibleInWords m) (λ t. possible_in_words m t sound) q
+    all-query_parts (AdmitsMatched m) (admits_matched m sound) q
     (query_limits q (and_parts (limited q) (not (list_any shares q)) h).0).groups

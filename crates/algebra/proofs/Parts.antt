@@ -4,23 +4,26 @@
 --     filter-walk_part        what passes p is answered as it is listed
 --     answers-walk_part       under a lawful admission all is answered as it is listed
 use Rattle.std.proofs.Common.{◌≡◌, ℕ, Bool, true, false, cond, ◌&&◌, List, [], ◌∷◌, length, refl, sym, ap}
-use Rattle.std.proofs.Common.{◌∙◌, subst, ⊎_elim}
+use Rattle.std.proofs.Common.{◌∙◌, ◌<◌, ◌≢◌, inl, subst, ⊎_elim}
 use Rattle.std.proofs.lemmas.Bool.{cases_Bool, cond-true, cond-false, and_parts, false_from_ne_true}
 use Rattle.std.proofs.lemmas.Bool.{both_ways}
-use Rattle.std.specs.List.{filter}
+use Rattle.std.specs.List.{filter, flat_map}
 use Rattle.query.specs.declared.pattern.TriplePattern.{TriplePattern}
 use Rattle.query.specs.Limits.{variables}
 use Rattle.triples.specs.Meaning.{Meaning, Term}
-use Rattle.filter.specs.Rows.{Row}
+use Rattle.filter.specs.Rows.{Row, none, value}
+use Rattle.query.specs.Lawful.{mentions}
 use Rattle.algebra.specs.Patterns.{with_value, stored, open_variables, terms, assignments, completions}
 use Rattle.algebra.specs.Admissions.{Admission, Completes, Lawful}
-use Rattle.algebra.specs.Walk.{Mark, try, answers, admitted, walk_through, walk_part}
-use Rattle.algebra.specs.Theorems.{WalkTakesTheLowest}
+use Rattle.algebra.specs.Walk.{Mark, try, answers, answer_if, admitted, walk_through, walk_part}
+use Rattle.algebra.specs.Theorems.{LowestOpen, WalkTakesTheLowest}
 use Rattle.algebra.proofs.Lists.{all-weaker, all-filter, flat_map-same, flat_map-filter, filter-flat_map}
 use Rattle.algebra.proofs.Lists.{filter-filter, filter-none, filter-true}
 use Rattle.algebra.proofs.Rows.{length-with_value}
-use Rattle.algebra.proofs.Assignments.{all-terms}
-use Rattle.algebra.proofs.Completions.{open_variables-rest, all-completions}
+use Rattle.algebra.proofs.Assignments.{Rising, all-terms}
+use Rattle.algebra.proofs.Members.{Member, has_from_member}
+use Rattle.algebra.proofs.Patterns.{all_from_stored}
+use Rattle.algebra.proofs.Completions.{open_variables-rest, all-completions, member-open, open_from_member, rising-open}
 use Rattle.algebra.proofs.Listing.{fitting}
 use Rattle.algebra.proofs.Marks.{answers-flat_map, answers-answer_if}
 
@@ -32,7 +35,8 @@ Protects m p admits = (ts : List TriplePattern) (r : Row) (v x : ℕ) (s : Row) 
 
 -- the law is this with a test that is always true: a lawful admission protects every completion
 protects_from_lawful : (m : Meaning) (admits : Admission) → Lawful m admits → Protects m (λ _. true) admits
-protects_from_lawful m admits law ts r v x s term completes has _ = law.keeps ts r v x s term completes has
+protects_from_lawful m admits law ts r v x s term completes has _ =
+    law.keeps ts r v x s term completes (all_from_stored m ts s has)
 
 module _ (m : Meaning) (p : Row → Bool) (admits : Admission) (law : Protects m p admits) (test : Row → Bool)
     (ts : List TriplePattern) where
@@ -92,9 +96,12 @@ module _ (m : Meaning) (p : Row → Bool) (admits : Admission) (law : Protects m
       filter-walk_through (open_variables ts r) r long refl
       ∙ ap (filter p) (sym (filter-filter test (stored m ts) (completions m.top ts r)))
 
--- the part's walk takes the lowest variable without a value
-pub walk_takes_the_lowest : WalkTakesTheLowest
-walk_takes_the_lowest m admits test ts r v vs long e =
+-- the part's walk tries the first variable without a value, and goes on as the part's walk
+walk_part-first : (m : Meaning) (admits : Admission) (test : Row → Bool) (ts : List TriplePattern) (r : Row)
+    (v : ℕ) (vs : List ℕ) → length r ≡ variables → open_variables ts r ≡ v ∷ vs
+    → walk_part m admits test ts r
+    ≡ flat_map (λ x. try v x ∷ walk_part m admits test ts (with_value r v x)) (admitted m admits ts r v)
+walk_part-first m admits test ts r v vs long e =
     let through = walk_through m admits ts (λ s. stored m ts s && test s) in
     let part = walk_part m admits test ts in
     ap (λ ws. through ws r) e
@@ -106,6 +113,42 @@ walk_takes_the_lowest m admits test ts r v vs long e =
     (λ x term. ap (λ ws. try v x ∷ through ws (with_value r v x))
     (sym (open_variables-rest ts r v x vs long e term.positive)))
     (admitted m admits ts r v) (all-filter (Term m.top) (admits ts r v) (terms m.top) (all-terms m.top)))
+
+-- the first of the open variables is the lowest
+first_from_lowest : (ts : List TriplePattern) (r : Row) (v : ℕ) (xs : List ℕ) → open_variables ts r ≡ xs
+    → length r ≡ variables → LowestOpen ts r v → (vs : List ℕ) × (open_variables ts r ≡ v ∷ vs)
+first_from_lowest ts r v [] e long low =
+    absurd (subst (Member v) e
+    (member-open ts r v (record { inside = low.inside; held = low.held; valueless = low.valueless })))
+first_from_lowest ts r v (w ∷ ws) e long low =
+    let there = subst (Member v) e
+    (member-open ts r v (record { inside = low.inside; held = low.held; valueless = low.valueless })) in
+    let first = open_from_member ts r w (subst (Member w) (sym e) (inl refl)) in
+    let rising = subst (Rising (length r)) e (rising-open ts r long) in
+    ⊎_elim
+    (λ is. (ws, e ∙ ap (λ x. x ∷ ws) (sym is)))
+    (λ later. absurd (low.first w (has_from_member (λ x. w < x) v ws rising.1.0 later) first.held
+    first.valueless))
+    there
+
+-- with no variable open, the row is an answer or the walk is empty
+walk_part-done : (m : Meaning) (admits : Admission) (test : Row → Bool) (ts : List TriplePattern) (r : Row)
+    (xs : List ℕ) → open_variables ts r ≡ xs
+    → ((v : ℕ) → v < variables → mentions v ts ≡ true → value r v ≢ none)
+    → walk_part m admits test ts r ≡ answer_if (stored m ts r && test r) r
+walk_part-done m admits test ts r [] e none-open =
+    ap (λ ws. walk_through m admits ts (λ s. stored m ts s && test s) ws r) e
+walk_part-done m admits test ts r (w ∷ ws) e none-open =
+    let first = open_from_member ts r w (subst (Member w) (sym e) (inl refl)) in
+    absurd (none-open w first.inside first.held first.valueless)
+
+-- the part's walk takes the lowest variable without a value
+pub walk_takes_the_lowest : WalkTakesTheLowest
+walk_takes_the_lowest m admits test ts r long = record {
+  more = λ v low. let (vs, e) = first_from_lowest ts r v (open_variables ts r) refl long low in
+      walk_part-first m admits test ts r v vs long e;
+  done = walk_part-done m admits test ts r (open_variables ts r) refl;
+}
 
 -- under a lawful admission the walk of a part answers the completions that it fits
 pub answers-walk_part : (m : Meaning) (admits : Admission) → Lawful m admits → (test : Row → Bool)

@@ -4,7 +4,7 @@
 --     lent ts r s        the row r with the values that s gives the variables of ts
 use Rattle.std.proofs.Common.{false, cond, map, length, ◌<◌, sym, subst, ⊎_elim, ◌≡◌, ℕ, Bool, true, ◌&&◌}
 use Rattle.std.proofs.Common.{◌||◌, List, [], ◌∷◌, refl, ap₂, ◌∙◌, eq-eqb}
-use Rattle.std.proofs.lemmas.Bool.{cases_lt, cond-true, cond-false, and_parts, or_cases, eqb-true, or_left}
+use Rattle.std.proofs.lemmas.Bool.{cases_lt, cond-true, cond-false, and_from, or_cases, eqb-true, or_left}
 use Rattle.std.proofs.lemmas.Bool.{or_right}
 use Rattle.std.proofs.lemmas.List.FromFn.{length-map-range_with_len}
 use Rattle.std.specs.List.{range_with_len}
@@ -15,7 +15,8 @@ use Rattle.query.specs.Lawful.{is_variable, mentions}
 use Rattle.triples.specs.Meaning as terms
 use Rattle.triples.specs.Meaning.{Meaning}
 use Rattle.filter.specs.Rows.{Row, value, number_at}
-use Rattle.algebra.specs.Patterns.{triple_under, stored}
+use Rattle.algebra.specs.Patterns.{triple_under, stored, Stored}
+use Rattle.algebra.proofs.Lists.{all_from_list_all}
 use Rattle.algebra.proofs.Rows.{value-map, equal_past}
 
 -- number_at
@@ -60,6 +61,22 @@ stored-same m (t ∷ ts) r s same =
     (triple_under-same t r s (λ v h. same v (or_left (in_triple v t) (mentions v ts) h)))
     (stored-same m ts r s (λ v h. same v (or_right (in_triple v t) (mentions v ts) h)))
 
+-- the test says what the fact does, triple by triple
+pub all_from_stored : (m : Meaning) (ts : List TriplePattern) (r : Row) → stored m ts r ≡ true → Stored m ts r
+all_from_stored m ts r h =
+    all_from_list_all (λ t. m.has (triple_under r t) ≡ true) (λ t. m.has (triple_under r t)) (λ t k. k) ts h
+
+pub stored_from_all : (m : Meaning) (ts : List TriplePattern) (r : Row) → Stored m ts r → stored m ts r ≡ true
+stored_from_all m [] r h = refl
+stored_from_all m (t ∷ ts) r h =
+    and_from (m.has (triple_under r t)) (stored m ts r) h.0 (stored_from_all m ts r h.1)
+
+-- what is stored under a row is stored under one with the same values for the variables of the patterns
+pub stored_from_same : (m : Meaning) (ts : List TriplePattern) (r s : Row)
+    → ((v : ℕ) → mentions v ts ≡ true → value r v ≡ value s v) → Stored m ts s → Stored m ts r
+stored_from_same m ts r s same h =
+    all_from_stored m ts r (stored-same m ts r s same ∙ stored_from_all m ts s h)
+
 term_from_number_at : (top : ℕ) (p : Place) (r : Row) (v : ℕ) → is_variable v p ≡ true
     → terms.Term top (number_at r p) → terms.Term top (value r v)
 term_from_number_at top (Variable w) r v here t =
@@ -68,10 +85,10 @@ term_from_number_at top (Term x) r v here t = cc
 
 -- a variable of patterns that are in a store of terms has a term
 pub term_from_stored : (m : Meaning) → terms.Sound m → (ts : List TriplePattern) (r : Row) (v : ℕ)
-    → stored m ts r ≡ true → mentions v ts ≡ true → terms.Term m.top (value r v)
+    → Stored m ts r → mentions v ts ≡ true → terms.Term m.top (value r v)
 term_from_stored m sound [] r v held there = cc
 term_from_stored m sound (t ∷ ts) r v held there =
-    let (first, rest) = and_parts (m.has (triple_under r t)) (stored m ts r) held in
+    let (first, rest) = held in
     let three = sound.terms (triple_under r t) first in
     ⊎_elim
     (λ here. ⊎_elim (λ s. term_from_number_at m.top t.subject r v s three.subject)

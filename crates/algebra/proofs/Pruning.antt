@@ -13,7 +13,7 @@ use Rattle.algebra.specs.Patterns.{with_value, triple_under, stored, completions
 use Rattle.algebra.specs.Admissions.{Completes, possible}
 use Rattle.algebra.specs.Theorems.{PrunersLawful}
 use Rattle.algebra.proofs.Members.{any_from_member}
-use Rattle.algebra.proofs.Patterns.{stored-same, lent, length-lent, value-lent_own, value-lent_other}
+use Rattle.algebra.proofs.Patterns.{stored-same, stored_from_all, lent, length-lent, value-lent_own, value-lent_other}
 use Rattle.algebra.proofs.Completions.{member-completions}
 
 -- the law
@@ -52,10 +52,10 @@ module _ (m : Meaning) (ts : List TriplePattern) (r s : Row) (done : Completes m
       (and_from _ true first refl))
       (list_all-possible us (λ v h. inside v (or_right _ (mentions v us) h)) rest)
 
-term_from_bounds : (top n : ℕ) → Term top n → term top n ≡ true
+pub term_from_bounds : (top n : ℕ) → Term top n → term top n ≡ true
 term_from_bounds top n t = and_from (leb 1 n) (leb n top) (le-leb 1 n t.positive) (le-leb n top t.small)
 
-bounds_from_term : (top n : ℕ) → term top n ≡ true → Term top n
+pub bounds_from_term : (top n : ℕ) → term top n ≡ true → Term top n
 bounds_from_term top n h =
     let parts = and_parts (leb 1 n) (leb n top) h in
     record { positive = leb-true 1 n parts.0; small = leb-true n top parts.1 }
@@ -70,7 +70,7 @@ pruners_lawful m = (
   record {
     keeps = λ ts r v x s t done has.
         and_from (term m.top x) (list_all (possible m (with_value r v x)) ts) (term_from_bounds m.top x t)
-        (list_all-possible m ts (with_value r v x) s done ts (λ w h. h) has);
+        (list_all-possible m ts (with_value r v x) s done ts (λ w h. h) (stored_from_all m ts s has));
     only = λ ts r v x h. bounds_from_term m.top x (and_parts (term m.top x) _ h).0;
   },
 )

@@ -12,21 +12,21 @@ use Rattle.query.specs.Parts.{Group}
 use Rattle.triples.specs.Meaning.{Meaning, Term, Sound}
 use Rattle.filter.specs.Rows.{Row, none, value}
 use Rattle.filter.specs.Filters.{passes}
-use Rattle.algebra.specs.Patterns.{blank, stored}
+use Rattle.algebra.specs.Patterns.{blank, Stored}
 use Rattle.algebra.specs.Algebra.{bgp}
 use Rattle.algebra.specs.Answers.{times}
-use Rattle.algebra.specs.Order.{part_of}
-use Rattle.algebra.specs.Words.{reached, upto, Fits, Extended, Left, Answered, no_part}
+use Rattle.algebra.specs.Order.{first_part}
+use Rattle.algebra.specs.Words.{reached, upto, Fits, Extended, LeftOut, Answered, no_part}
 use Rattle.algebra.specs.Admissions.{Completes}
 use Rattle.algebra.proofs.Lists.{drop-next}
 use Rattle.algebra.proofs.Members.{Member, member_from_filter, member_from_flat_map}
 use Rattle.algebra.proofs.Rows.{length-blank, value-blank, member_from_times}
-use Rattle.algebra.proofs.Patterns.{stored-same, term_from_stored}
+use Rattle.algebra.proofs.Patterns.{stored_from_same, term_from_stored}
 use Rattle.algebra.proofs.Completions.{kept_from_completes}
 use Rattle.algebra.proofs.Listing.{or_itself, extended, rows_of}
 use Rattle.algebra.proofs.Fitting.{completes_from_stored, fits_from_member, member-fitting}
 use Rattle.algebra.proofs.Fitting.{member_from_or_itself}
-use Rattle.algebra.proofs.Owners.{block_at, held_from_block, part_of-required, held_from_required}
+use Rattle.algebra.proofs.Owners.{block_at, held_from_block, first_part-required, held_from_required}
 use Rattle.algebra.proofs.Upto.{reached-low, value-upto_part, upto_from_values}
 use Rattle.algebra.proofs.RowsInWork.{Worked, Asked, made_by, some_from_term, value-own, worked-next}
 use Rattle.algebra.proofs.RowsInWork.{upto_from_next, others_from_completes, completes_from_own}
@@ -36,7 +36,7 @@ record Onward (m : Meaning) (e : ℕ → Entry) (g : Group) (k : ℕ) (s r : Row
   long : length r ≡ variables
   before : upto g k r ≡ s
   blocks : (i : ℕ) → k ≤ i → i < length g.blocks → Asked m e g r i
-  others : (v : ℕ) → part_of g v ≡ None → value r v ≡ none
+  others : (v : ℕ) → first_part g v ≡ None → value r v ≡ none
 
 onward_none : (m : Meaning) (e : ℕ → Entry) (g : Group) (k : ℕ) (s r : Row) → k ≡ length g.blocks
     → Worked g k s → r ≡ s → Onward m e g k s r
@@ -51,7 +51,7 @@ onward_none m e g k s r all w same =
 
 -- r comes from t behind block k, which differs from s at most at that block's own variables
 onward_more : (m : Meaning) (e : ℕ → Entry) (g : Group) (k : ℕ) (s t r : Row) → Worked g k s
-    → ((v : ℕ) → (part_of g v ≡ Some (k + 1) → ⊥) → value t v ≡ value s v) → Asked m e g r k
+    → ((v : ℕ) → (first_part g v ≡ Some (k + 1) → ⊥) → value t v ≡ value s v) → Asked m e g r k
     → Onward m e g (k + 1) t r → Onward m e g k s r
 onward_more m e g k s t r w kept here on =
     record {
@@ -84,7 +84,7 @@ module _ (m : Meaning) (e : ℕ → Entry) (g : Group) (sound : Sound m) (apart 
       → ((t : Row) → Completes m.top (block_at g k).triples s t → Fits m e (block_at g k) t → ⊥)
       → Onward m e g (k + 1) s r → Onward m e g k s r
   onward_left k s r low w never on =
-      let left : Left m e g (k + 1) (block_at g k) r = record {
+      let left : LeftOut m e g (k + 1) (block_at g k) r = record {
         valueless = λ v own.
             sym (value-upto_part g (k + 1) r v (k + 1) on.long own (omega arith))
             ∙ ap (λ u. value u v) on.before ∙ value-own g k s w v own;
@@ -119,27 +119,27 @@ module _ (m : Meaning) (e : ℕ → Entry) (g : Group) (sound : Sound m) (apart 
       (member_from_or_itself s t fits from)
 
   -- the rows of the required triples, as rows in work before the first block
-  worked_start : (s : Row) → Completes m.top g.required blank s → stored m g.required s ≡ true → Worked g 0 s
+  worked_start : (s : Row) → Completes m.top g.required blank s → Stored m g.required s → Worked g 0 s
   worked_start s f held =
       record {
         long = f.long ∙ length-blank;
         later = λ v far. kept_from_completes m.top g.required blank s f v
-            (λ o. both_ways (reached 0 (part_of g v)) far
-            (reached-low 0 0 (part_of g v) (part_of-required g v o.held) (omega arith)))
+            (λ o. both_ways (reached 0 (first_part g v)) far
+            (reached-low 0 0 (first_part g v) (first_part-required g v o.held) (omega arith)))
             ∙ value-blank v;
         required = λ v first. some_from_term m.top (value s v)
             (term_from_stored m sound g.required s v held (held_from_required g v first));
       }
 
-  answered_onward : (s r : Row) → stored m g.required s ≡ true → Onward m e g 0 s r
+  answered_onward : (s r : Row) → Stored m g.required s → Onward m e g 0 s r
       → passes e g.filter r ≡ true → Answered m e g r
   answered_onward s r held on true_on =
       record {
         long = on.long;
-        required = stored-same m g.required r s (λ v there.
-            sym (value-upto_part g 0 r v 0 on.long (part_of-required g v there) (omega arith))
+        required = stored_from_same m g.required r s (λ v there.
+            sym (value-upto_part g 0 r v 0 on.long (first_part-required g v there) (omega arith))
             ∙ ap (λ u. value u v) on.before)
-            ∙ held;
+            held;
         blocks = λ i low. on.blocks i (omega arith) low;
         others = on.others;
         filter = true_on;

@@ -12,21 +12,21 @@ use Rattle.query.specs.Parts.{Group}
 use Rattle.triples.specs.Meaning.{Meaning}
 use Rattle.filter.specs.Rows.{Row, none, value}
 use Rattle.algebra.specs.Answers.{Answer}
-use Rattle.algebra.specs.Order.{parts_of, part_from, part_of, no_group, Before, Precedes}
+use Rattle.algebra.specs.Order.{parts_of, first_part_from, first_part, no_group, Before, Precedes}
 use Rattle.algebra.specs.Words.{Answered}
 use Rattle.algebra.specs.Theorems.{OrderIsTotal}
 use Rattle.algebra.proofs.Rows.{row_from_values, answer_from_parts}
 use Rattle.algebra.proofs.Lexical.{Lowest, lowest-cases}
-use Rattle.algebra.proofs.Owners.{part_from-yes, part_from-no, held_from_part, held_from_first}
+use Rattle.algebra.proofs.Owners.{first_part_from-yes, first_part_from-no, held_from_part, held_from_first}
 
 -- among rows over the parts, of which the first has the number k, r comes before s
 pub record Ahead (k : ℕ) (parts : List (List TriplePattern)) (r s : Row) : Type 0 where
   pub part : ℕ
   pub variable : ℕ
-  pub own : part_from variable k parts ≡ Some part
+  pub own : first_part_from variable k parts ≡ Some part
   pub smaller : value r variable < value s variable
-  pub earlier : (w p : ℕ) → part_from w k parts ≡ Some p → p < part → value r w ≡ value s w
-  pub lower : (w : ℕ) → part_from w k parts ≡ Some part → w < variable → value r w ≡ value s w
+  pub earlier : (w p : ℕ) → first_part_from w k parts ≡ Some p → p < part → value r w ≡ value s w
+  pub lower : (w : ℕ) → first_part_from w k parts ≡ Some part → w < variable → value r w ≡ value s w
 
 pub before_from_ahead : (g : Group) (r s : Row) → Ahead 0 (parts_of g) r s → Before g r s
 before_from_ahead g r s a = record {
@@ -44,7 +44,7 @@ module _ (k : ℕ) (ts : List TriplePattern) (parts : List (List TriplePattern))
   ahead_from_lowest l = record {
     part = k;
     variable = l.variable;
-    own = part_from-yes l.variable k ts parts l.own;
+    own = first_part_from-yes l.variable k ts parts l.own;
     smaller = l.smaller;
     earlier = λ w p e h. let (i, at, _, _) = held_from_part w k (ts ∷ parts) p e in
         absurd (omega (arith, h, at));
@@ -53,10 +53,10 @@ module _ (k : ℕ) (ts : List TriplePattern) (parts : List (List TriplePattern))
 
   -- the rows do not differ within the first part
   module _ (same : (v : ℕ) → mentions v ts ≡ true → value r v ≡ value s v) where
-    same-unless : (w : ℕ) (is : Option ℕ) → part_from w k (ts ∷ parts) ≡ is
-        → (part_from w (k + 1) parts ≡ is → value r w ≡ value s w) → value r w ≡ value s w
+    same-unless : (w : ℕ) (is : Option ℕ) → first_part_from w k (ts ∷ parts) ≡ is
+        → (first_part_from w (k + 1) parts ≡ is → value r w ≡ value s w) → value r w ≡ value s w
     same-unless w is e later =
-        ⊎_elim (same w) (λ f. later (sym (part_from-no w k ts parts f) ∙ e)) (cases_Bool (mentions w ts))
+        ⊎_elim (same w) (λ f. later (sym (first_part_from-no w k ts parts f) ∙ e)) (cases_Bool (mentions w ts))
 
     pub ahead_from_later : Ahead (k + 1) parts r s → Ahead k (ts ∷ parts) r s
     ahead_from_later a = record {
@@ -64,7 +64,7 @@ module _ (k : ℕ) (ts : List TriplePattern) (parts : List (List TriplePattern))
       variable = a.variable;
       own = ⊎_elim
           (λ t. let e = same a.variable t in absurd (omega (arith, a.smaller)))
-          (λ f. part_from-no a.variable k ts parts f ∙ a.own)
+          (λ f. first_part_from-no a.variable k ts parts f ∙ a.own)
           (cases_Bool (mentions a.variable ts));
       smaller = a.smaller;
       earlier = λ w p e h. same-unless w (Some p) e (λ o. a.earlier w p o h);
@@ -108,14 +108,14 @@ module _ (g : Group) where
   before-never r b = omega (arith, b.smaller)
 
   -- the rows agree at each variable that comes before the one at which they differ first
-  equal_from_before : (r s : Row) (b : Before g r s) (w p : ℕ) → part_of g w ≡ Some p
+  equal_from_before : (r s : Row) (b : Before g r s) (w p : ℕ) → first_part g w ≡ Some p
       → Sooner p w b.part b.variable → value r w ≡ value s w
   equal_from_before r s b w p own =
       ⊎_elim (b.earlier w p own) (λ h. b.lower w (own ∙ ap (λ k. Some k) h.0) h.1)
 
   module _ (r s t : Row) (b : Before g r s) (c : Before g s t) where
     -- r is smaller than t at the variable v of part k, before which all three agree
-    before_from_both : (k v : ℕ) → part_of g v ≡ Some k → value r v < value t v
+    before_from_both : (k v : ℕ) → first_part g v ≡ Some k → value r v < value t v
         → ((w p : ℕ) → Sooner p w k v → Sooner p w b.part b.variable × Sooner p w c.part c.variable)
         → Before g r t
     before_from_both k v own smaller both = record {
@@ -127,7 +127,7 @@ module _ (g : Group) where
       lower = λ w o h. agree w k o (both w k (inr (refl, h)));
     }
       where
-        agree : (w p : ℕ) → part_of g w ≡ Some p
+        agree : (w p : ℕ) → first_part g w ≡ Some p
             → Sooner p w b.part b.variable × Sooner p w c.part c.variable → value r w ≡ value t w
         agree w p o l = equal_from_before r s b w p o l.0 ∙ equal_from_before s t c w p o l.1
 
@@ -151,7 +151,7 @@ module _ (g : Group) where
 module _ (r s : Row) (one : length r ≡ variables) (two : length s ≡ variables) where
   -- part by part: the first at whose variables the rows do not agree decides
   ahead-cases : (k : ℕ) (parts : List (List TriplePattern))
-      → ((v p : ℕ) → part_from v k parts ≡ Some p → value r v ≡ value s v)
+      → ((v p : ℕ) → first_part_from v k parts ≡ Some p → value r v ≡ value s v)
       ⊎ (Ahead k parts r s ⊎ Ahead k parts s r)
   ahead-cases k [] = inl (λ v p e. absurd cc)
   ahead-cases k (ts ∷ parts) =
@@ -168,14 +168,14 @@ module _ (r s : Row) (one : length r ≡ variables) (two : length s ≡ variable
       (lowest-cases (λ v. mentions v ts) r s one two)
 
   -- rows that have no values elsewhere
-  before-cases : (g : Group) → ((v : ℕ) → part_of g v ≡ None → value r v ≡ none)
-      → ((v : ℕ) → part_of g v ≡ None → value s v ≡ none) → (r ≡ s) ⊎ (Before g r s ⊎ Before g s r)
+  before-cases : (g : Group) → ((v : ℕ) → first_part g v ≡ None → value r v ≡ none)
+      → ((v : ℕ) → first_part g v ≡ None → value s v ≡ none) → (r ≡ s) ⊎ (Before g r s ⊎ Before g s r)
   before-cases g h k =
       ⊎_elim
-      (λ same. let by : (v : ℕ) (o : Option ℕ) → part_of g v ≡ o → value r v ≡ value s v =
-      (λ v o. elim o as (λ o. part_of g v ≡ o → value r v ≡ value s v)
+      (λ same. let by : (v : ℕ) (o : Option ℕ) → first_part g v ≡ o → value r v ≡ value s v =
+      (λ v o. elim o as (λ o. first_part g v ≡ o → value r v ≡ value s v)
       [ None ↦ λ e. h v e ∙ sym (k v e) | Some p ↦ λ e. same v p e ]) in
-      inl (row_from_values r s (one ∙ sym two) (λ v. by v (part_of g v) refl)))
+      inl (row_from_values r s (one ∙ sym two) (λ v. by v (first_part g v) refl)))
       (⊎_elim (λ a. inr (inl (before_from_ahead g r s a))) (λ a. inr (inr (before_from_ahead g s r a))))
       (ahead-cases 0 (parts_of g))
 
@@ -213,7 +213,7 @@ module _ (q : List Group) where
         (⊎_elim (λ c. inr (inl (inr (i, c))))
         (λ c. inr (inr (inr (sym i, subst (λ n. Before (group n) b.row a.row) i c)))))
         (before-cases a.row b.row h.long k.long (group a.alternative) h.others
-        (subst (λ n. (v : ℕ) → part_of (group n) v ≡ None → value b.row v ≡ none) (sym i) k.others)))
+        (subst (λ n. (v : ℕ) → first_part (group n) v ≡ None → value b.row v ≡ none) (sym i) k.others)))
         (λ n. inr (inr (inl (omega (arith, l, n)))))
         (cases_eq a.alternative b.alternative))
         (cases_lt a.alternative b.alternative)

@@ -8,7 +8,7 @@ use Rattle.std.proofs.lemmas.List.FromFn.{length-map-range_with_len}
 use Rattle.query.specs.Limits.{variables}
 use Rattle.query.specs.Parts.{Group}
 use Rattle.filter.specs.Rows.{Row, none, value}
-use Rattle.algebra.specs.Order.{part_of}
+use Rattle.algebra.specs.Order.{first_part}
 use Rattle.algebra.specs.Words.{reached, upto}
 use Rattle.algebra.proofs.Rows.{value-map, value-past, equal_past, row_from_values}
 
@@ -54,37 +54,37 @@ reached-first (Some (suc k)) other = reached-high 0 (suc k) (Some (suc k)) refl 
 
 module _ (g : Group) (p : ℕ) (r : Row) where
   pub length-upto : length (upto g p r) ≡ variables
-  length-upto = length-map-range_with_len (λ v. cond (reached p (part_of g v)) (value r v) none) 0 variables
+  length-upto = length-map-range_with_len (λ v. cond (reached p (first_part g v)) (value r v) none) 0 variables
 
   value-upto : (v : ℕ) → v < variables
-      → value (upto g p r) v ≡ cond (reached p (part_of g v)) (value r v) none
-  value-upto v = value-map (λ w. cond (reached p (part_of g w)) (value r w) none) variables v
+      → value (upto g p r) v ≡ cond (reached p (first_part g v)) (value r v) none
+  value-upto v = value-map (λ w. cond (reached p (first_part g w)) (value r w) none) variables v
 
   pub value-upto_past : (v : ℕ) → variables ≤ v → value (upto g p r) v ≡ none
   value-upto_past v high = value-past (upto g p r) v (omega (arith, length-upto, high))
 
-  pub value-upto_reached : (v : ℕ) → length r ≡ variables → reached p (part_of g v) ≡ true
+  pub value-upto_reached : (v : ℕ) → length r ≡ variables → reached p (first_part g v) ≡ true
       → value (upto g p r) v ≡ value r v
   value-upto_reached v long h =
-      ⊎_elim (λ low. value-upto v low ∙ cond-true (reached p (part_of g v)) (value r v) none h)
+      ⊎_elim (λ low. value-upto v low ∙ cond-true (reached p (first_part g v)) (value r v) none h)
       (equal_past (upto g p r) r variables length-upto long v)
       (cases_lt v variables)
 
   -- the value of a variable of the part k
-  pub value-upto_part : (v k : ℕ) → length r ≡ variables → part_of g v ≡ Some k → k ≤ p
+  pub value-upto_part : (v k : ℕ) → length r ≡ variables → first_part g v ≡ Some k → k ≤ p
       → value (upto g p r) v ≡ value r v
-  value-upto_part v k long own low = value-upto_reached v long (reached-low p k (part_of g v) own low)
+  value-upto_part v k long own low = value-upto_reached v long (reached-low p k (first_part g v) own low)
 
-  pub value-upto_later : (v : ℕ) → reached p (part_of g v) ≡ false → value (upto g p r) v ≡ none
+  pub value-upto_later : (v : ℕ) → reached p (first_part g v) ≡ false → value (upto g p r) v ≡ none
   value-upto_later v h =
-      ⊎_elim (λ low. value-upto v low ∙ cond-false (reached p (part_of g v)) (value r v) none h)
+      ⊎_elim (λ low. value-upto v low ∙ cond-false (reached p (first_part g v)) (value r v) none h)
       (value-upto_past v) (cases_lt v variables)
 
   -- it is the row of that length that has r's values where they are reached, and none elsewhere
   pub upto_from_values : (s : Row) → length r ≡ variables → length s ≡ variables
-      → ((v : ℕ) → reached p (part_of g v) ≡ true → value r v ≡ value s v)
-      → ((v : ℕ) → reached p (part_of g v) ≡ false → value s v ≡ none) → upto g p r ≡ s
+      → ((v : ℕ) → reached p (first_part g v) ≡ true → value r v ≡ value s v)
+      → ((v : ℕ) → reached p (first_part g v) ≡ false → value s v ≡ none) → upto g p r ≡ s
   upto_from_values s long too same later =
       row_from_values (upto g p r) s (length-upto ∙ sym too)
       (λ v. ⊎_elim (λ t. value-upto_reached v long t ∙ same v t) (λ f. value-upto_later v f ∙ sym (later v f))
-      (cases_Bool (reached p (part_of g v))))
+      (cases_Bool (reached p (first_part g v))))

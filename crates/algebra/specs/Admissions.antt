@@ -2,7 +2,7 @@
 --     Admission             for a part's triples, a row and a variable: whether a value is worth a try
 --     Completes top ts r s  s gives the variables of ts that r gives none a value, and is like r elsewhere
 --     Lawful m admits       no value is left out that some completion in the store has
---     every_term, look_ahead      the two admissions that are always to be had
+--     every_term, look_ahead   the two admissions that need nothing but the store
 --     Matches r t u         u is a triple that the pattern t can become under the row r
 use Rattle.std.specs.Prelude.{◌≡◌, ℕ, ◌<◌, ◌≤◌, Bool, true, false, ◌&&◌, ◌⊎◌, List, [], ◌∷◌, length, ◌≢◌}
 use Rattle.std.specs.List.{list_all, list_any}
@@ -13,7 +13,7 @@ use Rattle.query.specs.Limits.{variables}
 use Rattle.triples.specs.declared.triple.Triple.{Triple}
 use Rattle.triples.specs.Meaning.{Meaning, Term, term}
 use Rattle.filter.specs.Rows.{Row, none, value, number_at}
-use Rattle.algebra.specs.Patterns.{with_value, stored, completions}
+use Rattle.algebra.specs.Patterns.{with_value, stored, Stored, completions}
 
 -- for a part's triples, a row, a variable and a value: whether the value is admitted
 abbrev pub Admission : Type 0
@@ -31,7 +31,7 @@ pub record Completes (top : ℕ) (ts : List TriplePattern) (r s : Row) : Type 0 
 -- values from 1 to the top are
 pub record Lawful (m : Meaning) (admits : Admission) : Type 0 where
   pub keeps : (ts : List TriplePattern) (r : Row) (v x : ℕ) (s : Row) → Term m.top x
-      → Completes m.top ts (with_value r v x) s → stored m ts s ≡ true → admits ts r v x ≡ true
+      → Completes m.top ts (with_value r v x) s → Stored m ts s → admits ts r v x ≡ true
   pub only : (ts : List TriplePattern) (r : Row) (v x : ℕ) → admits ts r v x ≡ true → Term m.top x
 
 -- every value from 1 to the top

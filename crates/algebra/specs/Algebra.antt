@@ -41,13 +41,13 @@ merge (x ∷ r) (y ∷ s) = either x y ∷ merge r s
 abbrev pub join : List Row → List Row → List Row
 join left right = flat_map (λ r. map (merge r) (filter (compatible r) right)) left
 
--- the rows of the first for which each row of the second is not compatible or its merge fails the test; an
--- error of the test counts as false here
+-- the rows of the first for which each row of the second is not compatible or its merge does not pass the
+-- test; a filter that is an error is not passed
 abbrev pub diff : (Row → Bool) → List Row → List Row → List Row
 diff test left right =
     filter (λ r. list_all (λ s. not (compatible r s) || not (test (merge r s))) right) left
 
--- the elements of both, where those that both have count twice
+-- the elements of both; how often each is there adds up
 abbrev pub union : {A : Type 0} → List A → List A → List A
 union left right = left ++ right
 

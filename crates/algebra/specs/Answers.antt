@@ -41,7 +41,7 @@ answers_from m e a (g ∷ gs) = union (numbered a (solutions m e g)) (answers_fr
 abbrev pub answers_to : Meaning → (ℕ → Entry) → List Group → List Answer
 answers_to m e q = answers_from m e 0 q
 
--- the two rows are the same
+-- the two rows are the same, by the library's test for lists of numbers
 abbrev pub same_row : Row → Row → Bool
 same_row r s = bytes_eq r s
 

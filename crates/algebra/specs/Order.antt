@@ -1,5 +1,5 @@
 -- In which order answers come. Assumes nothing.
---     part_of g v         the first part of the alternative whose triples hold v
+--     first_part g v         the first part of the alternative whose triples hold v
 --     Before g r s        among the answers of g, r comes before s
 --     Precedes q a b      among the answers of q, a comes before b
 --     Ascending R xs      each element of xs is before every later one
@@ -17,23 +17,23 @@ abbrev pub parts_of : Group → List (List TriplePattern)
 parts_of g = g.required ∷ map (λ b. b.triples) g.blocks
 
 -- the first of the parts, counted from p, whose triples hold v; none where no part does
-abbrev pub part_from : ℕ → ℕ → List (List TriplePattern) → Option ℕ
-part_from v p [] = None
-part_from v p (ts ∷ parts) = cond (mentions v ts) (Some p) (part_from v (p + 1) parts)
+abbrev pub first_part_from : ℕ → ℕ → List (List TriplePattern) → Option ℕ
+first_part_from v p [] = None
+first_part_from v p (ts ∷ parts) = cond (mentions v ts) (Some p) (first_part_from v (p + 1) parts)
 
 -- the part to which v belongs: the first whose triples hold it
-abbrev pub part_of : Group → ℕ → Option ℕ
-part_of g v = part_from v 0 (parts_of g)
+abbrev pub first_part : Group → ℕ → Option ℕ
+first_part g v = first_part_from v 0 (parts_of g)
 
 -- the first part that gave r and s different values is part, the lowest of its variables at which they differ
 -- is variable, and r has the smaller value there
 pub record Before (g : Group) (r s : Row) : Type 0 where
   pub part : ℕ
   pub variable : ℕ
-  pub own : part_of g variable ≡ Some part
+  pub own : first_part g variable ≡ Some part
   pub smaller : value r variable < value s variable
-  pub earlier : (w p : ℕ) → part_of g w ≡ Some p → p < part → value r w ≡ value s w
-  pub lower : (w : ℕ) → part_of g w ≡ Some part → w < variable → value r w ≡ value s w
+  pub earlier : (w p : ℕ) → first_part g w ≡ Some p → p < part → value r w ≡ value s w
+  pub lower : (w : ℕ) → first_part g w ≡ Some part → w < variable → value r w ≡ value s w
 
 -- the alternative without parts, read where there is none
 abbrev pub no_group : Group

@@ -1,11 +1,11 @@
 -- Triple patterns under a row. Assumes nothing.
 --     stored m ts r           the triples of ts under r are all in the store
---     variables_in ts         the variables of ts, ascending
---     open_variables ts r     those of them that have no value in r
+--     Stored m ts r           the same, triple by triple
+--     open_variables ts r     the variables of ts that have no value in r, ascending
 --     completions top ts r    every row that gives them values from 1 to top, and keeps the rest of r
-use Rattle.std.specs.Prelude.{ℕ, Bool, not, ◌&&◌, List, [], ◌∷◌, replicate}
+use Rattle.std.specs.Prelude.{◌≡◌, ℕ, Bool, true, not, ◌&&◌, List, [], ◌∷◌, replicate}
 use Rattle.std.specs.Prelude.{slice_set}
-use Rattle.std.specs.List.{filter, flat_map, list_all, range_with_len}
+use Rattle.std.specs.List.{filter, flat_map, list_all, range_with_len, AllByRecursion}
 use Rattle.query.specs.declared.pattern.TriplePattern.{TriplePattern}
 use Rattle.query.specs.Lawful.{mentions}
 use Rattle.query.specs.Limits.{variables}
@@ -33,17 +33,17 @@ triple_under r t = record {
 abbrev pub stored : Meaning → List TriplePattern → Row → Bool
 stored m ts r = list_all (λ t. m.has (triple_under r t)) ts
 
--- the numbers of the variables
-abbrev pub numbers : List ℕ
-numbers = range_with_len 0 variables
+-- the store has, for each pattern, the triple that it is under the row
+abbrev pub Stored : Meaning → List TriplePattern → Row → Type 0
+Stored m ts r = AllByRecursion (λ t. m.has (triple_under r t) ≡ true) ts
 
--- the variables of the patterns, ascending
-abbrev pub variables_in : List TriplePattern → List ℕ
-variables_in ts = filter (λ v. mentions v ts) numbers
+-- all variables, ascending
+abbrev pub all_variables : List ℕ
+all_variables = range_with_len 0 variables
 
 -- the variables of the patterns that have no value in the row, ascending
 abbrev pub open_variables : List TriplePattern → Row → List ℕ
-open_variables ts r = filter (λ v. mentions v ts && not (has_value r v)) numbers
+open_variables ts r = filter (λ v. mentions v ts && not (has_value r v)) all_variables
 
 -- the terms from 1 to top, ascending
 abbrev pub terms : ℕ → List ℕ

@@ -1,21 +1,21 @@
 -- What this crate proves of every query, store and catalogue. Assumes nothing.
 use Rattle.std.specs.Prelude.{◌≡◌, ℕ, ◌+◌, ◌<◌, ◌≤◌, Bool, true, cond, not, ◌&&◌, ◌||◌, List}
-use Rattle.std.specs.Prelude.{◌⊎◌, ◌∷◌, length, slice_index_or}
+use Rattle.std.specs.Prelude.{◌⊎◌, ◌∷◌, length, slice_index_or, ◌≢◌}
 use Rattle.std.specs.List.{filter, flat_map, list_all, AllByRecursion}
 use Rattle.catalogue.specs.Entries.{Entry}
 use Rattle.query.specs.declared.pattern.TriplePattern.{TriplePattern}
-use Rattle.query.specs.Lawful.{total}
+use Rattle.query.specs.Lawful.{mentions, total}
 use Rattle.query.specs.Limits.{variables}
 use Rattle.query.specs.Parts.{Group}
 use Rattle.triples.specs.declared.triple.Triple.{Triple}
-use Rattle.triples.specs.Meaning.{Meaning}
-use Rattle.filter.specs.Rows.{Row}
-use Rattle.algebra.specs.Patterns.{blank, with_value, stored, open_variables}
+use Rattle.triples.specs.Meaning.{Meaning, Term}
+use Rattle.filter.specs.Rows.{Row, none, value}
+use Rattle.algebra.specs.Patterns.{blank, with_value, stored, Stored}
 use Rattle.algebra.specs.Algebra.{bgp, compatible, merge, join, diff, union, left_join}
 use Rattle.algebra.specs.Answers.{Answer, solutions, answers_to, same_row, times, times_answered}
 use Rattle.algebra.specs.Order.{Precedes, Ascending, no_group, parts_of}
-use Rattle.algebra.specs.Admissions.{Admission, Completes, Lawful, every_term, possible, look_ahead, Matches}
-use Rattle.algebra.specs.Walk.{try, answers, admitted, walk_part, walk}
+use Rattle.algebra.specs.Admissions.{Admission, Completes, Lawful, every_term, look_ahead, Matches}
+use Rattle.algebra.specs.Walk.{try, answers, answer_if, admitted, walk_part, walk}
 use Rattle.algebra.specs.Words.{Answered}
 
 -- the walk lists the query's answers: each as often as the algebra counts it, in the order, none twice
@@ -64,36 +64,49 @@ pub record OnceInEach (m : Meaning) (e : ℕ → Entry) (q : List Group) : Type 
 abbrev pub PrunersLawful : Type 0
 PrunersLawful = (m : Meaning) → Lawful m (every_term m) × Lawful m (look_ahead m)
 
--- the triple patterns of a query, in all its parts
-abbrev pub patterns_of : List Group → List TriplePattern
-patterns_of q = flat_map (λ g. flat_map (λ ts. ts) (parts_of g)) q
+-- some triple of the store is one that the pattern can become under the row
+abbrev pub Matched : Meaning → Row → TriplePattern → Type 0
+Matched m r t = (u : Triple) × (m.has u ≡ true) × Matches r t u
 
--- what the look-ahead asks of a pattern, said without completions: it is possible exactly if some triple of
--- the store matches it
-abbrev pub PossibleInWords : Meaning → TriplePattern → Type 0
-PossibleInWords m t = (r : Row) → length r ≡ variables
-    → (possible m r t ≡ true → (u : Triple) × (m.has u ≡ true) × Matches r t u)
-    × ((u : Triple) → m.has u ≡ true → Matches r t u → possible m r t ≡ true)
+-- looking ahead admits a value for the part exactly if it is a term, and under the row with it each triple of
+-- the part, by itself, is matched by a triple of the store
+abbrev pub AdmitsMatched : Meaning → List TriplePattern → Type 0
+AdmitsMatched m ts = (r : Row) (v x : ℕ) → length r ≡ variables
+    → (look_ahead m ts r v x ≡ true → Term m.top x × AllByRecursion (Matched m (with_value r v x)) ts)
+    × (Term m.top x → AllByRecursion (Matched m (with_value r v x)) ts → look_ahead m ts r v x ≡ true)
 
--- so it is for every pattern of the query
+-- so it does for each part of the query
 abbrev pub LookAheadInWords : Meaning → List Group → Type 0
-LookAheadInWords m q = AllByRecursion (PossibleInWords m) (patterns_of q)
+LookAheadInWords m q = AllByRecursion (AdmitsMatched m) (flat_map parts_of q)
+
+-- v is the lowest variable of the patterns that has no value in the row
+pub record LowestOpen (ts : List TriplePattern) (r : Row) (v : ℕ) : Type 0 where
+  pub inside : v < variables
+  pub held : mentions v ts ≡ true
+  pub valueless : value r v ≡ none
+  pub first : (w : ℕ) → w < v → mentions w ts ≡ true → value r w ≢ none
 
 -- the part's walk takes the lowest variable without a value: each admitted value gives a try, and then the
--- part's walk from the row with it
+-- part's walk from the row with it; where all have values, the row is an answer or the walk is empty
+pub record TakesTheLowest (m : Meaning) (admits : Admission) (test : Row → Bool) (ts : List TriplePattern)
+    (r : Row) : Type 0 where
+  pub more : (v : ℕ) → LowestOpen ts r v → walk_part m admits test ts r
+      ≡ flat_map (λ x. try v x ∷ walk_part m admits test ts (with_value r v x)) (admitted m admits ts r v)
+  pub done : ((v : ℕ) → v < variables → mentions v ts ≡ true → value r v ≢ none)
+      → walk_part m admits test ts r ≡ answer_if (stored m ts r && test r) r
+
+-- so it does for every part and every row of sixteen values
 abbrev pub WalkTakesTheLowest : Type 0
 WalkTakesTheLowest =
-    (m : Meaning) (admits : Admission) (test : Row → Bool) (ts : List TriplePattern) (r : Row) (v : ℕ)
-    (vs : List ℕ) → length r ≡ variables → open_variables ts r ≡ v ∷ vs
-    → walk_part m admits test ts r
-    ≡ flat_map (λ x. try v x ∷ walk_part m admits test ts (with_value r v x)) (admitted m admits ts r v)
+    (m : Meaning) (admits : Admission) (test : Row → Bool) (ts : List TriplePattern) (r : Row)
+    → length r ≡ variables → TakesTheLowest m admits test ts r
 
 -- a basic graph pattern has each row that gives its variables, and no others, values from 1 to the top under
 -- which its triples are all in the store, and has it once
 abbrev pub BasicPatterns : Type 0
 BasicPatterns = (m : Meaning) (ts : List TriplePattern) (r : Row)
-    → (Completes m.top ts blank r → stored m ts r ≡ true → times r (bgp m ts) ≡ 1)
-    × (0 < times r (bgp m ts) → Completes m.top ts blank r × (stored m ts r ≡ true))
+    → (Completes m.top ts blank r → Stored m ts r → times r (bgp m ts) ≡ 1)
+    × (0 < times r (bgp m ts) → Completes m.top ts blank r × Stored m ts r)
 
 -- how often a row occurs in what the operators make, as the recommendation counts: in a filter as before or
 -- never, in a union by the sum, in a join by the pairs that merge to it, in a difference as before or never,

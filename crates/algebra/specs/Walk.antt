@@ -14,7 +14,8 @@ use Rattle.algebra.specs.Patterns.{blank, with_value, stored, open_variables, te
 use Rattle.algebra.specs.Answers.{Answer}
 use Rattle.algebra.specs.Admissions.{Admission}
 
--- a try of a value for a variable, or an answer
+-- a try of a value for a variable, or an answer; the answers of a part's walk are the rows that fit it, and
+-- those of a query's walk its answers
 pub data Mark (A : Type 0) : Type 0 where
   try : ℕ → ℕ → Mark A
   answer : A → Mark A
@@ -58,7 +59,7 @@ abbrev pub otherwise : Row → List Row → List (Mark Row)
 otherwise r [] = answer r ∷ []
 otherwise r (s ∷ fits) = []
 
--- the marks, and behind them, if no answer is among them, the row itself
+-- the marks, and after them, if no answer is among them, the row itself
 abbrev pub or_unextended : Row → List (Mark Row) → List (Mark Row)
 or_unextended r ms = ms ++ otherwise r (answers ms)
 
@@ -66,7 +67,7 @@ or_unextended r ms = ms ++ otherwise r (answers ms)
 abbrev pub walk_block : Meaning → (ℕ → Entry) → Admission → Part → Row → List (Mark Row)
 walk_block m e admits b r = or_unextended r (walk_part m admits (passes e b.filter) b.triples r)
 
--- the walk of the blocks left, and behind the last of them an answer if the row passes the group filter
+-- the walk of the blocks left, and after the last of them an answer if the row passes the group filter
 abbrev pub walk_blocks : Meaning → (ℕ → Entry) → Admission → Group → List Part → Row → List (Mark Row)
 walk_blocks m e admits g [] r = answer_if (passes e g.filter r) r
 walk_blocks m e admits g (b ∷ bs) r =
