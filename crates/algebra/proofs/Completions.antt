@@ -67,7 +67,8 @@ pub open_variables-rest : (ts : List TriplePattern) (r : Row) (v x : ℕ) (vs : 
 open_variables-rest ts r v x vs long e some =
     let first = open_from_member ts r v (subst (Member v) (sym e) (inl refl)) in
     let own = value-with_same r v x (omega (arith, long, first.inside)) in
-    filter-rest (lacking ts r) (lacking ts (with_value r v x)) all_variables v vs (ascending-range 0 variables) e
+    filter-rest (lacking ts r) (lacking ts (with_value r v x)) all_variables v vs
+    (ascending-range 0 variables) e
     (λ w ne. ap (λ y. mentions w ts && not (not (eqb y none))) (sym (value-with_other r v x w ne)))
     (and_right (mentions v ts) (not (has_value (with_value r v x) v))
     (ap not (has_value-some (with_value r v x) v (omega (arith, own, some)))))

@@ -61,7 +61,8 @@ module _ (m : Meaning) (ts : List TriplePattern) (r s : Row) where
   pub member-stored : Completes m.top ts r s → Stored m ts s
       → Member s (filter (stored m ts) (completions m.top ts r))
   member-stored c held =
-      member-filter (stored m ts) s (completions m.top ts r) (stored_from_all m ts s held) (member-completions m.top ts r s c)
+      member-filter (stored m ts) s (completions m.top ts r) (stored_from_all m ts s held)
+      (member-completions m.top ts r s c)
 
 -- fitting
 

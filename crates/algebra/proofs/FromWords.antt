@@ -36,10 +36,12 @@ module _ (m : Meaning) (e : ℕ → Entry) (g : Group) (r : Row) (a : Answered m
   upto-all k all =
       upto_from_values g k r r a.long a.long (λ v _. refl) (λ v far. none_far v (first_part g v) refl far)
     where
-      none_far : (v : ℕ) (o : Option ℕ) → first_part g v ≡ o → reached k (first_part g v) ≡ false → value r v ≡ none
+      none_far : (v : ℕ) (o : Option ℕ) → first_part g v ≡ o → reached k (first_part g v) ≡ false
+          → value r v ≡ none
       none_far v None at far = a.others v at
       none_far v (Some zero) at far =
-          absurd (both_ways (reached k (first_part g v)) far (reached-low k 0 (first_part g v) at (omega arith)))
+          absurd (both_ways (reached k (first_part g v)) far
+          (reached-low k 0 (first_part g v) at (omega arith)))
       none_far v (Some (suc i)) at far =
           let next : suc i ≡ i + 1 = omega arith in
           let low = (held_from_block g i v (at ∙ ap Some next)).0 in

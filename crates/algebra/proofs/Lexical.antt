@@ -89,7 +89,8 @@ lowest-cases p r s one two =
     let own : (v : ℕ) → Member v vs → p v ≡ true = (λ v i. (member_from_filter p v all_variables i).1) in
     let past = equal_past r s variables one two in
     let there : (v : ℕ) → p v ≡ true → v < variables → Member v vs =
-    (λ v t l. member-filter p v all_variables t (member-range 0 variables v (omega arith) (omega (arith, l)))) in
+    (λ v t l. member-filter p v all_variables t
+    (member-range 0 variables v (omega arith) (omega (arith, l)))) in
     let outside : (v : ℕ) → p v ≡ true → (Member v vs → ⊥) → value r v ≡ value s v =
     (λ v t out. ⊎_elim (λ l. absurd (out (there v t l))) (past v) (cases_lt v variables)) in
     ⊎_elim

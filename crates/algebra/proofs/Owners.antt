@@ -23,7 +23,8 @@ module _ (v p : ℕ) (ts : List TriplePattern) (parts : List (List TriplePattern
   pub first_part_from-yes : mentions v ts ≡ true → first_part_from v p (ts ∷ parts) ≡ Some p
   first_part_from-yes t = cond-true (mentions v ts) (Some p) (first_part_from v (p + 1) parts) t
 
-  pub first_part_from-no : mentions v ts ≡ false → first_part_from v p (ts ∷ parts) ≡ first_part_from v (p + 1) parts
+  pub first_part_from-no : mentions v ts ≡ false
+      → first_part_from v p (ts ∷ parts) ≡ first_part_from v (p + 1) parts
   first_part_from-no f = cond-false (mentions v ts) (Some p) (first_part_from v (p + 1) parts) f
 
 -- two parts of one variable are the same
@@ -31,14 +32,16 @@ pub same_part : (o : Option ℕ) (j k : ℕ) → o ≡ Some j → o ≡ Some k �
 same_part o j k e f = cc
 
 -- the part is one of them, and its triples hold the variable
-pub held_from_part : (v p : ℕ) (parts : List (List TriplePattern)) (k : ℕ) → first_part_from v p parts ≡ Some k
+pub held_from_part : (v p : ℕ) (parts : List (List TriplePattern)) (k : ℕ)
+    → first_part_from v p parts ≡ Some k
     → (i : ℕ) × (k ≡ p + i) × (i < length parts) × (mentions v (get_or parts i []) ≡ true)
 held_from_part v p [] k h = cc
 held_from_part v p (ts ∷ parts) k h =
     ⊎_elim
     (λ t. let at = same_part (first_part_from v p (ts ∷ parts)) p k (first_part_from-yes v p ts parts t) h in
     (0, omega (arith, at), omega arith, t))
-    (λ f. let (i, at, low, t) = held_from_part v (p + 1) parts k (sym (first_part_from-no v p ts parts f) ∙ h) in
+    (λ f. let (i, at, low, t) = held_from_part v (p + 1) parts k
+    (sym (first_part_from-no v p ts parts f) ∙ h) in
     (suc i, omega (arith, at), omega (arith, low), t))
     (cases_Bool (mentions v ts))
 

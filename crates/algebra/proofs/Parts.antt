@@ -23,7 +23,8 @@ use Rattle.algebra.proofs.Rows.{length-with_value}
 use Rattle.algebra.proofs.Assignments.{Rising, all-terms}
 use Rattle.algebra.proofs.Members.{Member, has_from_member}
 use Rattle.algebra.proofs.Patterns.{all_from_stored}
-use Rattle.algebra.proofs.Completions.{open_variables-rest, all-completions, member-open, open_from_member, rising-open}
+use Rattle.algebra.proofs.Completions.{open_variables-rest, all-completions, member-open, open_from_member}
+use Rattle.algebra.proofs.Completions.{rising-open}
 use Rattle.algebra.proofs.Listing.{fitting}
 use Rattle.algebra.proofs.Marks.{answers-flat_map, answers-answer_if}
 

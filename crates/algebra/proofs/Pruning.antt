@@ -13,7 +13,8 @@ use Rattle.algebra.specs.Patterns.{with_value, triple_under, stored, completions
 use Rattle.algebra.specs.Admissions.{Completes, possible}
 use Rattle.algebra.specs.Theorems.{PrunersLawful}
 use Rattle.algebra.proofs.Members.{any_from_member}
-use Rattle.algebra.proofs.Patterns.{stored-same, stored_from_all, lent, length-lent, value-lent_own, value-lent_other}
+use Rattle.algebra.proofs.Patterns.{stored-same, stored_from_all, lent, length-lent, value-lent_own}
+use Rattle.algebra.proofs.Patterns.{value-lent_other}
 use Rattle.algebra.proofs.Completions.{member-completions}
 
 -- the law

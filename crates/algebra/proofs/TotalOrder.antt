@@ -56,7 +56,8 @@ module _ (k : ℕ) (ts : List TriplePattern) (parts : List (List TriplePattern))
     same-unless : (w : ℕ) (is : Option ℕ) → first_part_from w k (ts ∷ parts) ≡ is
         → (first_part_from w (k + 1) parts ≡ is → value r w ≡ value s w) → value r w ≡ value s w
     same-unless w is e later =
-        ⊎_elim (same w) (λ f. later (sym (first_part_from-no w k ts parts f) ∙ e)) (cases_Bool (mentions w ts))
+        ⊎_elim (same w) (λ f. later (sym (first_part_from-no w k ts parts f) ∙ e))
+        (cases_Bool (mentions w ts))
 
     pub ahead_from_later : Ahead (k + 1) parts r s → Ahead k (ts ∷ parts) r s
     ahead_from_later a = record {

@@ -54,7 +54,8 @@ reached-first (Some (suc k)) other = reached-high 0 (suc k) (Some (suc k)) refl 
 
 module _ (g : Group) (p : ℕ) (r : Row) where
   pub length-upto : length (upto g p r) ≡ variables
-  length-upto = length-map-range_with_len (λ v. cond (reached p (first_part g v)) (value r v) none) 0 variables
+  length-upto =
+      length-map-range_with_len (λ v. cond (reached p (first_part g v)) (value r v) none) 0 variables
 
   value-upto : (v : ℕ) → v < variables
       → value (upto g p r) v ≡ cond (reached p (first_part g v)) (value r v) none

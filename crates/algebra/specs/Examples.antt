@@ -70,8 +70,8 @@ pub record WorkedExamples : Type 0 where
   -- the algebra gives the rows that the walk lists, here in the same order
   pub algebra_gives_the_rows_walked : of_bytes defined onward
       ≡ Some (in_alternative 0 first_batch_at_farm ∷ in_alternative 0 second_batch_alone ∷ [])
-  -- where every term is tried, there are six tries for variable 0, and six for variable 1 after each of the two
-  -- batches
+  -- where every term is tried, there are six tries for variable 0, and six for variable 1 after each of the
+  -- two batches
   pub every_term_tried : of_bytes (tries every_term) onward ≡ Some 18
   -- six tries for variable 0 and six after each of them; looking ahead, lot 1 and its two batches
   pub every_pair_tried : of_bytes (tries every_term) went_into ≡ Some 42
