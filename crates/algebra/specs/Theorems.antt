@@ -25,16 +25,7 @@ pub record ListsAll (m : Meaning) (e : ℕ → Entry) (q : List Group) (admits :
   pub in_order : Ascending (Precedes q) (answers (walk m e admits q))
   pub once : (a : Answer) → times_answered a (answers (walk m e admits q)) ≤ 1
 
--- the order of a query's answers: none comes before itself; what comes before one that comes before another
--- comes before that other; and two answers are the same, or one of them comes before the other
-pub record OrderIsTotal (m : Meaning) (e : ℕ → Entry) (q : List Group) : Type 0 where
-  pub never : (a : Answer) → Precedes q a a → ⊥
-  pub onward : (a b c : Answer) → Precedes q a b → Precedes q b c → Precedes q a c
-  pub either : (a b : Answer) → Answered m e (slice_index_or q a.alternative no_group) a.row
-      → Answered m e (slice_index_or q b.alternative no_group) b.row
-      → (a ≡ b) ⊎ (Precedes q a b ⊎ Precedes q b a)
-
--- whatever lawful admission it asks, the walk lists the query's answers
+-- whatever lawful admission is asked, the walk lists the query's answers
 abbrev pub WalkListsAnswers : Meaning → (ℕ → Entry) → List Group → Type 0
 WalkListsAnswers m e q = (admits : Admission) → Lawful m admits → ListsAll m e q admits
 
@@ -43,7 +34,7 @@ abbrev pub SameUnderAllPruners : Meaning → (ℕ → Entry) → List Group → 
 SameUnderAllPruners m e q = (one other : Admission) → Lawful m one → Lawful m other
     → answers (walk m e one q) ≡ answers (walk m e other q)
 
--- a row is a solution of an alternative exactly if it is one in words, and then once
+-- a row is a solution of an alternative exactly if what the words ask of an answer holds of it, and then once
 abbrev pub SolutionsInWords : Meaning → (ℕ → Entry) → List Group → Type 0
 SolutionsInWords m e q = (a : ℕ) (r : Row) → a < length q
     → (Answered m e (slice_index_or q a no_group) r
@@ -59,6 +50,15 @@ pub record OnceInEach (m : Meaning) (e : ℕ → Entry) (q : List Group) : Type 
       ≡ times a.row (solutions m e (slice_index_or q a.alternative no_group))
   pub once : (a : Answer) → times_answered a (answers_to m e q) ≤ 1
   pub beyond : (a : Answer) → length q ≤ a.alternative → times_answered a (answers_to m e q) ≡ 0
+
+-- the order of a query's answers: none comes before itself; what comes before one that comes before another
+-- comes before that other; and two answers are the same, or one of them comes before the other
+pub record OrderIsTotal (m : Meaning) (e : ℕ → Entry) (q : List Group) : Type 0 where
+  pub never : (a : Answer) → Precedes q a a → ⊥
+  pub onward : (a b c : Answer) → Precedes q a b → Precedes q b c → Precedes q a c
+  pub either : (a b : Answer) → Answered m e (slice_index_or q a.alternative no_group) a.row
+      → Answered m e (slice_index_or q b.alternative no_group) b.row
+      → (a ≡ b) ⊎ (Precedes q a b ⊎ Precedes q b a)
 
 -- trying every term, and looking ahead, leave out no value that the law protects
 abbrev pub PrunersLawful : Type 0
