@@ -18,7 +18,8 @@ pub fn walk_lists_answers<S: Store, C: Catalogue>(query: &Query, store: &S, cata
         (shape query.now) }
 {}
 
-/// A row is a solution of an alternative exactly if what the words ask of an answer, part by part, holds of it.
+/// A row is a solution of an alternative exactly if what the words ask of an answer, part by part, holds of
+/// it.
 pub fn solutions_in_words<S: Store, C: Catalogue>(query: &Query, store: &S, catalogue: &C)
     ensures { SolutionsInWords (S.Store.meaning store.now) (C.Catalogue.entries catalogue.now)
         (shape query.now) }
@@ -45,8 +46,8 @@ pub fn pruners_lawful()
     ensures { PrunersLawful }
 {}
 
-/// Looking ahead admits a value exactly if it is a term, and each triple of the part, by itself, is matched by
-/// a triple of the store.
+/// Looking ahead admits a value exactly if it is a term, and each triple of the part, by itself, is matched
+/// by a triple of the store.
 pub fn look_ahead_in_words<S: Store>(query: &Query, store: &S)
     ensures { LookAheadInWords (S.Store.meaning store.now) (shape query.now) }
 {}
