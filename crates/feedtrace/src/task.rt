@@ -1,4 +1,5 @@
 //! What the console does with tables, layers, and what they hold.
+use crate::part::Part;
 use crate::verb::Verb;
 use triples::position::Position;
 use triples::selector::Selector;
@@ -36,4 +37,6 @@ pub enum Task {
     Scan(Selector),
     /// Lists the terms that the term reaches.
     Trace(u32),
+    /// Asks for the truth of the part's filter on the row: a value for each variable, 0 where it has none.
+    Filter(Part, [u32; 16]),
 }
