@@ -22,7 +22,7 @@ use Rattle.feedtrace.specs.declared.verb.Verb.TheVariants as verb
 use Rattle.feedtrace.proofs.Fields.{first_number-last, first_number-space, first_number-spaced}
 use Rattle.feedtrace.proofs.Fields.{first_row-all, first_row-spaced}
 use Rattle.feedtrace.proofs.Fields.{first_position-space, first_triple-last, first_triple-space}
-use Rattle.feedtrace.specs.Fields.{first_row, only}
+use Rattle.feedtrace.specs.Fields.{only}
 use Rattle.feedtrace.specs.Forms.{block_form, filter_behind, filter_form, inverse_form, leap_form}
 use Rattle.feedtrace.specs.Forms.{number_form, seek_form}
 use Rattle.feedtrace.specs.Forms.{task_asked, task_fields, task_form, triple_form}

@@ -36,8 +36,8 @@ impl Part {
                 group_truth(query, alternative as usize, row, book).ok_or(Expected::Alternative)
             }
             Part::Block(alternative, block) => {
-                block_truth(query, alternative as usize, block as usize, row, book)
-                    .ok_or(Expected::Block)
+                let truth = block_truth(query, alternative as usize, block as usize, row, book);
+                truth.ok_or(Expected::Block)
             }
         }
     }
