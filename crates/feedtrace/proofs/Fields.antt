@@ -1,12 +1,11 @@
 -- Laws of what stands first in the rest of a line. Assumes nothing.
-use Rattle.std.proofs.Common.{◌≡◌, ℕ, ◌≤◌, ◌++◌, codes, decimal, length, List, [], ◌∷◌, Some}
-use Rattle.std.proofs.Common.{zero, suc, take, drop, Option, ℤ}
+use Rattle.std.proofs.Common.{◌≡◌, ℕ, zero, suc, ◌≤◌, ◌++◌, codes, decimal, length, take, drop, List, []}
+use Rattle.std.proofs.Common.{◌∷◌, Some, Option, ℤ}
 use Rattle.std.proofs.Common.{arith, refl, sym, ap, ◌∙◌, append-nil, append_assoc}
-use Rattle.std.specs.Fmt.{signed_decimal}
-use Rattle.std.specs.List.{All}
 use Rattle.std.proofs.Math.ListN.{drop_of_length-le}
 use Rattle.std.proofs.lemmas.List.{take_all}
-use Rattle.filter.specs.Rows.{Row}
+use Rattle.std.specs.Fmt.{signed_decimal}
+use Rattle.std.specs.List.{All}
 use Rattle.triples.specs.declared.position.Position.{Position}
 use Rattle.triples.specs.declared.position.Position.TheVariants.{Subject, Property, Object}
 use Rattle.triples.specs.declared.triple.Triple.{Triple}
@@ -16,11 +15,11 @@ use Rattle.console.proofs.Words.{after_word-append, unindented-decimal, unindent
 use Rattle.console.proofs.Words.{word_length-decimal}
 use Rattle.console.specs.Numerals.{number_from}
 use Rattle.console.specs.Words.{after_word, unindented, word, word_length}
+use Rattle.filter.specs.Rows.{Row}
 use Rattle.feedtrace.proofs.Numerals.{signed_from-signed_decimal, unindented-signed_decimal}
 use Rattle.feedtrace.proofs.Numerals.{word_length-signed_decimal}
 use Rattle.feedtrace.specs.Fields.{first_as, first_number, first_numbers, first_position}
-use Rattle.feedtrace.specs.Fields.{first_row, first_signed}
-use Rattle.feedtrace.specs.Fields.{first_triple, position_of}
+use Rattle.feedtrace.specs.Fields.{first_row, first_signed, first_triple, position_of}
 use Rattle.feedtrace.specs.Numerals.{most_number, signed_from}
 use Rattle.feedtrace.specs.WrittenLines.{RowFits, SignedFits}
 use Rattle.feedtrace.specs.WrittenTasks.{position_text, spaced_text}

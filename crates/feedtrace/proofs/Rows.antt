@@ -55,7 +55,8 @@ module _ {text row rest : List ℕ} {i : ℕ} (reading : Reading text row i rest
         long = length-set row i v ∙ reading.long;
         left = next_left less ∙ ap (λ m. onto (take i row) (behind_one (16 - (i + 1)) m)) some
             ∙ onto-more (take i row) v others
-            ∙ ap (λ xs. onto xs others) (sym (take-set_at row i (i + 1) v refl (omega (arith, reading.long))));
+            ∙ ap (λ xs. onto xs others)
+            (sym (take-set_at row i (i + 1) v refl (omega (arith, reading.long))));
       }
 
   -- behind the last value the row is read

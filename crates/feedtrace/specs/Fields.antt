@@ -1,8 +1,8 @@
 -- What stands first in the rest of a line, and what follows it. Assumes nothing.
 --     first_number text     the number that stands first, and what follows it
 --     only m                that value, if nothing follows it
-use Rattle.std.specs.Prelude.{◌≡◌, ℕ, zero, suc, cond, List, [], ◌∷◌, ℤ, Some, None, codes, Option, MatchOption}
-use Rattle.std.specs.Prelude.{option_and_then}
+use Rattle.std.specs.Prelude.{◌≡◌, ℕ, zero, suc, cond, List, [], ◌∷◌, ℤ, Some, None, codes, Option}
+use Rattle.std.specs.Prelude.{MatchOption, option_and_then}
 use Rattle.std.specs.Str.{bytes_eq}
 use Rattle.triples.specs.declared.position.Position.{Position}
 use Rattle.triples.specs.declared.position.Position.TheVariants.{Subject, Property, Object}

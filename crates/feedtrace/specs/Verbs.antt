@@ -7,7 +7,7 @@ use Rattle.feedtrace.specs.declared.verb.Verb.TheVariants.{Withdrawn}
 use Rattle.feedtrace.specs.declared.verb.Verb.TheVariants.{Withdraw, Restore, Seek, Leap, Lookup, Scan}
 use Rattle.feedtrace.specs.declared.verb.Verb.TheVariants.{Trace, Filter}
 
--- what the word w asks of the store or the catalogue
+-- what the word w asks of the store, the catalogue or the query
 abbrev pub question_verb : List ℕ → Option Verb
 question_verb w =
     cond (bytes_eq w (codes "seek")) (Some Seek)

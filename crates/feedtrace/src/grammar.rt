@@ -1,8 +1,9 @@
 //! The forms of tasks.
 ghost use Rattle.std.specs.Prelude.{◌≡◌};
 ghost use Rattle.feedtrace.specs.Fields.{Parted};
-ghost use Rattle.feedtrace.specs.Forms.{begins_table, catalogue_form, catalogue_of, filter_form, inverse_form};
-ghost use Rattle.feedtrace.specs.Forms.{leap_form, seek_form, task_asked, task_fields, task_form};
+ghost use Rattle.feedtrace.specs.Forms.{begins_table, catalogue_form, catalogue_of, filter_form};
+ghost use Rattle.feedtrace.specs.Forms.{inverse_form, leap_form, seek_form, task_asked, task_fields};
+ghost use Rattle.feedtrace.specs.Forms.{task_form};
 ghost use Rattle.feedtrace.specs.WrittenTasks.{TaskReadsBack};
 
 use crate::expected::Expected;
