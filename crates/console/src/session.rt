@@ -1,8 +1,9 @@
 //! The session of a console: what is current between two lines, and one step of it, from a line to its
 //! answer.
 ghost use Rattle.std.specs.Prelude.{◌≡◌, [], map, None};
-ghost use Rattle.std.specs.Option.{unwrap_or};
+ghost use Rattle.std.specs.Option.{option_map, unwrap_or};
 ghost use Rattle.query.specs.Parts.{group_of};
+ghost use Rattle.query.specs.Shape.{shape};
 ghost use Rattle.console.specs.Sessions.{current, Answered, Steps, Showed, Took, Wrote};
 
 use crate::answer::Answer;
@@ -51,13 +52,20 @@ impl Session {
         }
     }
 
+    /// The current query, if there is one.
+    pub fn query(&self) -> Option<&Query>
+        ensures { option_map (λ query. shape query.now) result ≡ current self.now }
+    {
+        self.query.as_ref()
+    }
+
     /// The answer, with the alternatives of the current query that it is printed with; none where there is no
     /// current query.
     pub fn reply<'a>(&'a self, answer: &'a Answer) -> Reply<'a>
         ensures answer { result.answer.now ≡ answer.now }
         ensures alternatives { map group_of result.alternatives.now ≡ unwrap_or (current self.now) [] }
     {
-        let alternatives = self.query.as_ref().map(Query::alternatives).unwrap_or(&[]);
+        let alternatives = self.query().map(Query::alternatives).unwrap_or(&[]);
         Reply {
             answer,
             alternatives,
@@ -78,7 +86,7 @@ impl Session {
     fn write(&self, heap: Global, length: u32) -> Result<Answer, Failure>
         ensures { Wrote length self.now result }
     {
-        let query = self.query.as_ref().ok_or(Expected::Query)?;
+        let query = self.query().ok_or(Expected::Query)?;
         let mut buffer = vec![in heap; 0u8; length as usize]?;
         let written = query.write(buffer.as_mut_slice())?;
         buffer.truncate(written);
@@ -89,7 +97,7 @@ impl Session {
     fn show(&self) -> Result<Answer, Failure>
         ensures { Showed self.now result }
     {
-        self.query.as_ref().ok_or(Expected::Query)?;
+        self.query().ok_or(Expected::Query)?;
         Ok(Answer::Shown)
     }
 }

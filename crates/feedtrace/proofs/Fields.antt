@@ -1,7 +1,11 @@
 -- Laws of what stands first in the rest of a line. Assumes nothing.
-use Rattle.std.proofs.Common.{◌≡◌, ℕ, ◌≤◌, ◌++◌, codes, decimal, length, List, [], Some, Option, ℤ}
+use Rattle.std.proofs.Common.{◌≡◌, ℕ, zero, suc, ◌≤◌, ◌++◌, codes, decimal, length, take, drop, List, []}
+use Rattle.std.proofs.Common.{◌∷◌, Some, Option, ℤ}
 use Rattle.std.proofs.Common.{arith, refl, sym, ap, ◌∙◌, append-nil, append_assoc}
+use Rattle.std.proofs.Math.ListN.{drop_of_length-le}
+use Rattle.std.proofs.lemmas.List.{take_all}
 use Rattle.std.specs.Fmt.{signed_decimal}
+use Rattle.std.specs.List.{All}
 use Rattle.triples.specs.declared.position.Position.{Position}
 use Rattle.triples.specs.declared.position.Position.TheVariants.{Subject, Property, Object}
 use Rattle.triples.specs.declared.triple.Triple.{Triple}
@@ -11,13 +15,14 @@ use Rattle.console.proofs.Words.{after_word-append, unindented-decimal, unindent
 use Rattle.console.proofs.Words.{word_length-decimal}
 use Rattle.console.specs.Numerals.{number_from}
 use Rattle.console.specs.Words.{after_word, unindented, word, word_length}
+use Rattle.filter.specs.Rows.{Row}
 use Rattle.feedtrace.proofs.Numerals.{signed_from-signed_decimal, unindented-signed_decimal}
 use Rattle.feedtrace.proofs.Numerals.{word_length-signed_decimal}
-use Rattle.feedtrace.specs.Fields.{first_as, first_number, first_position, first_signed}
-use Rattle.feedtrace.specs.Fields.{first_triple, position_of}
+use Rattle.feedtrace.specs.Fields.{first_as, first_number, first_numbers, first_position}
+use Rattle.feedtrace.specs.Fields.{first_row, first_signed, first_triple, position_of}
 use Rattle.feedtrace.specs.Numerals.{most_number, signed_from}
 use Rattle.feedtrace.specs.WrittenLines.{RowFits, SignedFits}
-use Rattle.feedtrace.specs.WrittenTasks.{position_text}
+use Rattle.feedtrace.specs.WrittenTasks.{position_text, spaced_text}
 
 -- where the word w stands first behind white space, and is read as x, x is given, and what follows w is left
 first_as-word : {A : Type 0} (read : List ℕ → Option A) (x : A) (w rest text : List ℕ)
@@ -54,6 +59,12 @@ pub first_number-last : (n : ℕ) → n ≤ most_number → first_number (codes 
 first_number-last n small =
     ap (λ text. first_number (codes " " ++ text)) (sym (append-nil (decimal n)))
     ∙ first_number-space n [] small refl
+
+-- a number with spaces before it and before others is read, and the others are left
+pub first_number-spaced : (n : ℕ) (xs : List ℕ) → n ≤ most_number
+    → first_number (spaced_text (n ∷ xs)) ≡ Some (n, spaced_text xs)
+first_number-spaced n [] small = first_number-space n [] small refl
+first_number-spaced n (x ∷ xs) small = first_number-space n (spaced_text (x ∷ xs)) small refl
 
 -- the same of the last number with its sign
 pub first_signed-last : (z : ℤ) → SignedFits z → first_signed (codes " " ++ signed_decimal z) ≡ Some (z, [])
@@ -97,3 +108,32 @@ first_position-space Property rest ends =
     first_as-word position_of Property (codes "property") rest (codes " property" ++ rest) refl ends refl refl
 first_position-space Object rest ends =
     first_as-word position_of Object (codes "object") rest (codes " object" ++ rest) refl ends refl refl
+
+-- the first n of numbers with spaces before them are read, and the others are left
+first_numbers-spaced : (n : ℕ) (xs : List ℕ) → n ≤ length xs → All (λ x. x ≤ most_number) xs
+    → first_numbers n (spaced_text xs) ≡ Some (take n xs, spaced_text (drop n xs))
+first_numbers-spaced zero xs enough small = refl
+first_numbers-spaced (suc n) [] enough small = absurd (omega arith)
+first_numbers-spaced (suc n) (x ∷ xs) enough small =
+    let others = first_numbers-spaced n xs (omega arith) (λ k d less. small (suc k) d (omega arith)) in
+    rw (first_number-spaced x xs (small 0 0 (omega arith)), others) refl
+
+-- the first n of numbers with spaces before them are all of them, if there are n
+first_numbers-all : (n : ℕ) (xs : List ℕ) → length xs ≡ n → All (λ x. x ≤ most_number) xs
+    → first_numbers n (spaced_text xs) ≡ Some (xs, [])
+first_numbers-all n xs long small =
+    first_numbers-spaced n xs (omega (arith, long)) small
+    ∙ ap (λ ys. Some (ys, spaced_text (drop n xs))) (take_all n xs (omega (arith, long)))
+    ∙ ap (λ ys. Some (xs, spaced_text ys)) (drop_of_length-le xs (omega (arith, long)))
+
+-- sixteen numbers with spaces before them are read as a row
+pub first_row-all : (r : Row) → length r ≡ 16 → All (λ x. x ≤ most_number) r
+    → first_row (spaced_text r) ≡ Some (r, [])
+unfolding first_row
+first_row-all r long small = first_numbers-all 16 r long small
+
+-- the first sixteen of numbers with spaces before them are read as a row, and the others are left
+pub first_row-spaced : (xs : List ℕ) → 16 ≤ length xs → All (λ x. x ≤ most_number) xs
+    → first_row (spaced_text xs) ≡ Some (take 16 xs, spaced_text (drop 16 xs))
+unfolding first_row
+first_row-spaced xs enough small = first_numbers-spaced 16 xs enough small

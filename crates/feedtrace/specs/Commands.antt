@@ -17,3 +17,4 @@ form_text verb.Leap = codes "leap subject, property or object, then A B C from N
 form_text verb.Lookup = codes "lookup N"
 form_text verb.Scan = codes "scan A B C"
 form_text verb.Trace = codes "trace N"
+form_text verb.Filter = codes "filter A V0 .. V15, or filter A B V0 .. V15"

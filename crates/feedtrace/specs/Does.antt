@@ -13,6 +13,7 @@ use Rattle.feedtrace.specs.Books.{book_entries}
 use Rattle.feedtrace.specs.Drafts.{Draft, rows, properties, records, Pending, pending_of}
 use Rattle.feedtrace.specs.Failures.{Carried, Done}
 use Rattle.feedtrace.specs.Laying.{Changed, InverseOn, WithdrawnOn, WithdrewOn, RestoredOn}
+use Rattle.feedtrace.specs.Judging.{Judged}
 use Rattle.feedtrace.specs.Loads.{ButBook}
 use Rattle.feedtrace.specs.Tasks.{Asked, Looked, SeekAnswer, LeapAnswer, ScanAnswer, TraceAnswer}
 
@@ -58,3 +59,4 @@ Does (task.Leap position selector bound) s r t = Comes (Asked (LeapAnswer positi
 Does (task.Lookup number) s r t = Gives (Looked number) s r t
 Does (task.Scan selector) s r t = Comes (Asked (ScanAnswer selector)) s r t
 Does (task.Trace term) s r t = Comes (Asked (TraceAnswer term)) s r t
+Does (task.Filter part row) s r t = Comes (Judged part row) s r t

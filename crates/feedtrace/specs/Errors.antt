@@ -11,7 +11,7 @@ use Rattle.feedtrace.specs.Commands.{form_text}
 abbrev pub commands_text : List ℕ
 commands_text =
     codes "a command: row-store, property-store, catalogue, inverse, withdrawn, withdraw, restore, "
-    ++ codes "seek, leap, lookup, scan, trace, query, write or show"
+    ++ codes "seek, leap, lookup, scan, trace, filter, query, write or show"
 
 -- what commands about queries expect too; this program knows more commands
 abbrev pub shared_text : shared.Expected → List ℕ
@@ -30,6 +30,8 @@ expected_text expected.Store = codes "a current store"
 expected_text expected.BareTable = codes "a store without layers"
 expected_text expected.NoWithdrawnLayer = codes "a store without a withdrawn layer"
 expected_text expected.WithdrawnLayer = codes "a withdrawn layer on top"
+expected_text expected.Alternative = codes "an alternative of the current query"
+expected_text expected.Block = codes "a block of the current query"
 expected_text (expected.RowLine n) = line_text (codes "S P O") n
 expected_text (expected.EntryLine n) = line_text (codes "property P FIRST, or pair S O,") n
 expected_text (expected.RecordLine n) = line_text (codes "KIND VALUE") n

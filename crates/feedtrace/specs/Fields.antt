@@ -1,14 +1,15 @@
 -- What stands first in the rest of a line, and what follows it. Assumes nothing.
 --     first_number text     the number that stands first, and what follows it
 --     only m                that value, if nothing follows it
-use Rattle.std.specs.Prelude.{◌≡◌, ℕ, cond, List, [], ◌∷◌, ℤ, Some, None, codes, Option, MatchOption}
-use Rattle.std.specs.Prelude.{option_and_then}
+use Rattle.std.specs.Prelude.{◌≡◌, ℕ, zero, suc, cond, List, [], ◌∷◌, ℤ, Some, None, codes, Option}
+use Rattle.std.specs.Prelude.{MatchOption, option_and_then}
 use Rattle.std.specs.Str.{bytes_eq}
 use Rattle.triples.specs.declared.position.Position.{Position}
 use Rattle.triples.specs.declared.position.Position.TheVariants.{Subject, Property, Object}
 use Rattle.triples.specs.declared.triple.Triple.{Triple}
 use Rattle.console.specs.Numerals.{number_from}
 use Rattle.console.specs.Words.{after_word, unindented, word}
+use Rattle.filter.specs.Rows.{Row}
 use Rattle.feedtrace.specs.Numerals.{most_number, signed_from}
 
 -- what f makes of the value, if there is one
@@ -47,6 +48,18 @@ first_triple text = do
   p ← first_number s.1
   o ← first_number p.1
   Some (record { subject = s.0; property = p.0; object = o.0 }, o.1)
+
+-- the n numbers that stand first, and what follows them
+abbrev pub first_numbers : ℕ → List ℕ → Option (List ℕ × List ℕ)
+first_numbers zero text = Some ([], text)
+first_numbers (suc n) text = do
+  v ← first_number text
+  vs ← first_numbers n v.1
+  Some (v.0 ∷ vs.0, vs.1)
+
+-- the sixteen numbers that stand first, as a row, and what follows them
+unfoldable pub first_row : List ℕ → Option (Row × List ℕ)
+first_row = first_numbers 16
 
 -- the position that a word names
 abbrev pub position_of : List ℕ → Option Position

@@ -1,20 +1,22 @@
 -- The forms of tasks: what follows the word, and what is left behind it. Assumes nothing.
---     T P Q N S O A B C     numbers from 0 to 4,294,967,295
-use Rattle.std.specs.Prelude.{ℕ, Bool, true, false, cond, List, Some, None, Ok, Err, codes, Option, Result}
-use Rattle.std.specs.Prelude.{◌==◌}
+--     T P Q N S O A B C V0 .. V15     numbers from 0 to 4,294,967,295
+use Rattle.std.specs.Prelude.{ℕ, Bool, true, false, cond, List, [], ◌∷◌, Some, None, Ok, Err}
+use Rattle.std.specs.Prelude.{codes, Option, Result, ◌==◌}
 use Rattle.std.specs.Str.{bytes_eq}
 use Rattle.triples.specs.declared.triple.Triple.{Triple}
 use Rattle.triples.specs.Order.{value_at}
 use Rattle.triples.specs.Selectors.{any, selector_of}
 use Rattle.console.specs.Words.{after_word, word}
+use Rattle.filter.specs.Rows.{Row}
 use Rattle.feedtrace.specs.declared.expected.Expected.{Expected}
 use Rattle.feedtrace.specs.declared.expected.Expected.TheVariants as expected
+use Rattle.feedtrace.specs.declared.part.Part.TheVariants.{Alternative, Block}
 use Rattle.feedtrace.specs.declared.task.Task.{Task}
 use Rattle.feedtrace.specs.declared.task.Task.TheVariants as task
 use Rattle.feedtrace.specs.declared.verb.Verb.{Verb}
 use Rattle.feedtrace.specs.declared.verb.Verb.TheVariants as verb
 use Rattle.feedtrace.specs.Fields.{◌>>=◌, first_as, first_from, first_number, first_position}
-use Rattle.feedtrace.specs.Fields.{first_triple, next_word, only}
+use Rattle.feedtrace.specs.Fields.{first_row, first_triple, next_word, only}
 use Rattle.feedtrace.specs.Verbs.{verb_of}
 
 -- the catalogue that a word names
@@ -52,6 +54,26 @@ leap_form text = do
   cond (value_at place.0 wanted.0 == any)
       (Some (task.Leap place.0 (selector_of wanted.0) bound.0, bound.1)) None
 
+-- B V0 .. V15, for the filter of a block of alternative a
+abbrev pub block_form : ℕ → List ℕ → Option (Task × List ℕ)
+block_form a text = do
+  b ← first_number text
+  values ← first_row b.1
+  Some (task.Filter (Block a b.0) values.0, values.1)
+
+-- text stands behind A, and begins with the row r; where nothing is left behind that, the filter is that of
+-- the alternative, else that of a block
+abbrev pub filter_behind : ℕ → List ℕ → Row → List ℕ → Option (Task × List ℕ)
+filter_behind a text r [] = Some (task.Filter (Alternative a) r, [])
+filter_behind a text r (c ∷ cs) = block_form a text
+
+-- A V0 .. V15, or A B V0 .. V15
+abbrev pub filter_form : List ℕ → Option (Task × List ℕ)
+filter_form text = do
+  a ← first_number text
+  values ← first_row a.1
+  filter_behind a.0 a.1 values.0 values.1
+
 -- N, as the number of a task
 abbrev pub number_form : (ℕ → Task) → List ℕ → Option (Task × List ℕ)
 number_form make text = first_number text >>= (λ n. Some (make n.0, n.1))
@@ -74,6 +96,7 @@ task_fields verb.Leap text = leap_form text
 task_fields verb.Lookup text = number_form task.Lookup text
 task_fields verb.Scan text = triple_form (λ t. task.Scan (selector_of t)) text
 task_fields verb.Trace text = number_form task.Trace text
+task_fields verb.Filter text = filter_form text
 
 -- the task of a word with what follows it, if nothing is left
 abbrev pub task_form : Verb → List ℕ → Option Task

@@ -16,6 +16,7 @@ pub mod WrittenTasks  -- commands that are written of a task
 pub mod Drafts  -- a table while its lines come in
 pub mod Currents  -- what the session ends as, where its store is lent
 pub mod Tasks  -- what tasks answer, and what they leave
+pub mod Judging  -- what is answered to the asking of a filter
 pub mod Laying  -- what laying layers and withdrawing leave
 pub mod Loads  -- what the end of a table answers
 pub mod Outcomes  -- the text of what a task came to

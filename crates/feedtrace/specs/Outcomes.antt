@@ -6,6 +6,7 @@ use Rattle.std.specs.Fmt.{signed_decimal}
 use Rattle.triples.specs.Text.{triple_text}
 use Rattle.catalogue.specs.Kinds.{name_of}
 use Rattle.console.specs.Answers.{newline}
+use Rattle.filter.specs.Truths as truths
 use Rattle.feedtrace.specs.declared.outcome.Outcome.{Outcome}
 use Rattle.feedtrace.specs.declared.outcome.Outcome.TheVariants as outcome
 
@@ -44,3 +45,4 @@ outcome_text (outcome.Number None) = codes "none"
 outcome_text (outcome.Entry kind value) = name_of kind ++ (codes " " ++ signed_decimal value)
 outcome_text (outcome.Triples v) = listing_text triple_text (vec_items v) (codes "triples")
 outcome_text (outcome.Terms v) = listing_text decimal (vec_items v) (codes "terms reached")
+outcome_text (outcome.Truth truth) = truths.name_of truth

@@ -5,16 +5,17 @@ use Rattle.feedtrace.specs.declared.verb.Verb.{Verb}
 use Rattle.feedtrace.specs.declared.verb.Verb.TheVariants.{RowStore, PropertyStore, Catalogue, Inverse}
 use Rattle.feedtrace.specs.declared.verb.Verb.TheVariants.{Withdrawn}
 use Rattle.feedtrace.specs.declared.verb.Verb.TheVariants.{Withdraw, Restore, Seek, Leap, Lookup, Scan}
-use Rattle.feedtrace.specs.declared.verb.Verb.TheVariants.{Trace}
+use Rattle.feedtrace.specs.declared.verb.Verb.TheVariants.{Trace, Filter}
 
--- what the word w asks of the store or the catalogue
+-- what the word w asks of the store, the catalogue or the query
 abbrev pub question_verb : List ℕ → Option Verb
 question_verb w =
     cond (bytes_eq w (codes "seek")) (Some Seek)
     (cond (bytes_eq w (codes "leap")) (Some Leap)
     (cond (bytes_eq w (codes "lookup")) (Some Lookup)
     (cond (bytes_eq w (codes "scan")) (Some Scan)
-    (cond (bytes_eq w (codes "trace")) (Some Trace) None))))
+    (cond (bytes_eq w (codes "trace")) (Some Trace)
+    (cond (bytes_eq w (codes "filter")) (Some Filter) None)))))
 
 -- what the word w says of tables and layers
 abbrev pub verb_of : List ℕ → Option Verb

@@ -1,5 +1,7 @@
 -- Commands that are written of a task in its form, and that they are read as the task. Assumes nothing.
-use Rattle.std.specs.Prelude.{◌≡◌, ℕ, ◌≤◌, List, [], ◌++◌, Some, Ok, Option, Result, codes, decimal}
+use Rattle.std.specs.Prelude.{◌≡◌, ℕ, ◌≤◌, List, [], ◌∷◌, ◌++◌, length, Some, Ok, Option, Result, codes}
+use Rattle.std.specs.Prelude.{decimal}
+use Rattle.std.specs.List.{All}
 use Rattle.triples.specs.declared.position.Position.{Position}
 use Rattle.triples.specs.declared.position.Position.TheVariants.{Subject, Property, Object}
 use Rattle.triples.specs.declared.selector.Selector.{Selector}
@@ -7,7 +9,10 @@ use Rattle.triples.specs.declared.triple.Triple.{Triple}
 use Rattle.triples.specs.Order.{value_at}
 use Rattle.triples.specs.Selectors.{any, floor}
 use Rattle.triples.specs.Text.{triple_text}
+use Rattle.filter.specs.Rows.{Row}
 use Rattle.feedtrace.specs.declared.expected.Expected.{Expected}
+use Rattle.feedtrace.specs.declared.part.Part.{Part}
+use Rattle.feedtrace.specs.declared.part.Part.TheVariants.{Alternative, Block}
 use Rattle.feedtrace.specs.declared.task.Task.{Task}
 use Rattle.feedtrace.specs.declared.task.Task.TheVariants as task
 use Rattle.feedtrace.specs.Numerals.{most_number}
@@ -36,6 +41,20 @@ abbrev pub leap_text : Position → Selector → ℕ → List ℕ
 leap_text p s n =
     codes "leap " ++ (position_text p ++ (codes " " ++ (selector_text s ++ (codes " from " ++ decimal n))))
 
+-- the numbers of xs as decimal numbers, a space before each
+abbrev pub spaced_text : List ℕ → List ℕ
+spaced_text [] = []
+spaced_text (x ∷ xs) = codes " " ++ (decimal x ++ spaced_text xs)
+
+-- the numbers of a part, and behind them the values of r
+abbrev pub filter_numbers : Part → Row → List ℕ
+filter_numbers (Alternative a) r = a ∷ r
+filter_numbers (Block a b) r = a ∷ b ∷ r
+
+-- filter, the numbers of p, and the values of r
+abbrev pub filter_text : Part → Row → List ℕ
+filter_text p r = codes "filter" ++ spaced_text (filter_numbers p r)
+
 -- the command that asks the task; a malformed table has none, and is given nothing
 abbrev pub task_text : Task → List ℕ
 task_text (task.RowStore n) = codes "row-store " ++ decimal n
@@ -52,6 +71,7 @@ task_text (task.Leap p s n) = leap_text p s n
 task_text (task.Lookup n) = codes "lookup " ++ decimal n
 task_text (task.Scan s) = codes "scan " ++ selector_text s
 task_text (task.Trace n) = codes "trace " ++ decimal n
+task_text (task.Filter p r) = filter_text p r
 
 -- the entries of s have 32 bits
 abbrev pub SelectorFits : Selector → Type 0
@@ -61,8 +81,12 @@ SelectorFits s = RowFits (floor s)
 abbrev pub LeapFits : Position → Selector → ℕ → Type 0
 LeapFits p s n = SelectorFits s × (value_at p (floor s) ≡ any) × (n ≤ most_number)
 
--- the numbers of the task have 32 bits, a leap's selector has any at its position, and it is no malformed
--- table
+-- r has a value for each of the sixteen variables, and the numbers of p and of r have 32 bits
+abbrev pub FilterFits : Part → Row → Type 0
+FilterFits p r = (length r ≡ 16) × All (λ n. n ≤ most_number) (filter_numbers p r)
+
+-- the numbers of the task have 32 bits, a leap's selector has any at its position, a filter's row has
+-- sixteen values, and it is no malformed table
 abbrev pub TaskFits : Task → Type 0
 TaskFits (task.RowStore n) = n ≤ most_number
 TaskFits (task.PropertyStore n) = n ≤ most_number
@@ -78,6 +102,7 @@ TaskFits (task.Leap p s n) = LeapFits p s n
 TaskFits (task.Lookup n) = n ≤ most_number
 TaskFits (task.Scan s) = SelectorFits s
 TaskFits (task.Trace n) = n ≤ most_number
+TaskFits (task.Filter p r) = FilterFits p r
 
 -- if t fits and text is its command, t is what is read of it
 abbrev pub TaskReadsBack : List ℕ → Result (Option Task) Expected → Type 0

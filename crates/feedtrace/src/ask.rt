@@ -1,6 +1,7 @@
-//! Questions to the current store and the current catalogue.
+//! Questions to the current store, the current catalogue and the current query.
 ghost use Rattle.std.specs.Borrow.{sem};
 ghost use Rattle.feedtrace.specs.Currents.{LendsStore, StoreOf};
+ghost use Rattle.feedtrace.specs.Judging.{Judged};
 ghost use Rattle.feedtrace.specs.Tasks.{Asked, Looked, SeekAnswer, LeapAnswer, ScanAnswer};
 ghost use Rattle.feedtrace.specs.Tasks.{TraceAnswer};
 
@@ -8,8 +9,10 @@ use crate::current::Layered;
 use crate::expected::Expected;
 use crate::failure::Failure;
 use crate::outcome::Outcome;
+use crate::part::Part;
 use crate::session::Session;
 use catalogue::catalogue::Catalogue;
+use console::expected::Expected as Shared;
 use std::alloc::Global;
 use trace::scan::scan;
 use trace::trace::trace as reached_from;
@@ -66,6 +69,15 @@ impl Session {
     {
         let store = self.current()?;
         Ok(Outcome::Terms(reached_from(heap, store, term)?))
+    }
+
+    /// The truth of the filter of the part of the current query, on the row under the current catalogue.
+    pub(crate) fn filter(&mut self, part: Part, row: [u32; 16]) -> Result<Outcome, Failure>
+        ensures { Judged part row self.old result self.new }
+    {
+        let query = self.queries.query().ok_or(Expected::Shared(Shared::Query))?;
+        let truth = part.truth(query, &row, &mut self.book)?;
+        Ok(Outcome::Truth(truth))
     }
 
     /// Kind and value of the number in the current catalogue.

@@ -46,6 +46,7 @@ impl Session {
             Task::Lookup(number) => Ok(Some(self.lookup(number))),
             Task::Scan(selector) => self.scan(heap, selector).map(Some),
             Task::Trace(term) => self.trace(heap, term).map(Some),
+            Task::Filter(part, row) => self.filter(part, row).map(Some),
         }
     }
 

@@ -13,7 +13,7 @@ use std::fmt::{Formatter, Write};
 /// The words that begin a command.
 const COMMANDS: &str =
     "a command: row-store, property-store, catalogue, inverse, withdrawn, withdraw, restore, \
-    seek, leap, lookup, scan, trace, query, write or show";
+    seek, leap, lookup, scan, trace, filter, query, write or show";
 
 /// What was expected, of the line or of the session.
 #[derive(Clone, Copy)]
@@ -30,6 +30,10 @@ pub enum Expected {
     NoWithdrawnLayer,
     /// A withdrawn layer on top.
     WithdrawnLayer,
+    /// An alternative of the current query.
+    Alternative,
+    /// A block of an alternative of the current query.
+    Block,
     /// A triple, in that line of a row store's table.
     RowLine(u64),
     /// A directory entry or a pair, in that line of a property store's table.
@@ -60,6 +64,8 @@ impl fmt::Display for Expected {
             Expected::BareTable => f.write_str("a store without layers"),
             Expected::NoWithdrawnLayer => f.write_str("a store without a withdrawn layer"),
             Expected::WithdrawnLayer => f.write_str("a withdrawn layer on top"),
+            Expected::Alternative => f.write_str("an alternative of the current query"),
+            Expected::Block => f.write_str("a block of the current query"),
             Expected::RowLine(line) => write!(f, "S P O in line {line} of the table"),
             Expected::EntryLine(line) => {
                 write!(

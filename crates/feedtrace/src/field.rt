@@ -1,7 +1,7 @@
 //! The fields of a line, one after the other.
 ghost use Rattle.std.specs.Prelude.{◌≡◌};
 ghost use Rattle.feedtrace.specs.Fields.{Parted, alone, first_from, first_number, first_position};
-ghost use Rattle.feedtrace.specs.Fields.{first_signed, first_triple, next_word, behind_word};
+ghost use Rattle.feedtrace.specs.Fields.{first_row, first_signed, first_triple, next_word, behind_word};
 ghost use Rattle.feedtrace.specs.Fields.{position_of};
 
 use crate::number::{MOST_NUMBER, signed_of};
@@ -53,6 +53,17 @@ impl<'a> Fields<'a> {
             property,
             object,
         })
+    }
+
+    /// The sixteen numbers that stand first, as the values of a row.
+    pub(crate) fn row_values(&mut self) -> Option<[u32; 16]>
+        ensures { Parted result self.new.rest.now (first_row self.old.rest.now) }
+    {
+        let mut row = [0; 16];
+        for value in row.iter_mut() {
+            *value = self.number()?;
+        }
+        Some(row)
     }
 
     /// The position whose name stands first.

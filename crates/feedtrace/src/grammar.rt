@@ -1,12 +1,14 @@
 //! The forms of tasks.
 ghost use Rattle.std.specs.Prelude.{◌≡◌};
 ghost use Rattle.feedtrace.specs.Fields.{Parted};
-ghost use Rattle.feedtrace.specs.Forms.{begins_table, catalogue_form, catalogue_of, inverse_form, leap_form};
-ghost use Rattle.feedtrace.specs.Forms.{seek_form, task_asked, task_fields, task_form};
+ghost use Rattle.feedtrace.specs.Forms.{begins_table, catalogue_form, catalogue_of, filter_form};
+ghost use Rattle.feedtrace.specs.Forms.{inverse_form, leap_form, seek_form, task_asked, task_fields};
+ghost use Rattle.feedtrace.specs.Forms.{task_form};
 ghost use Rattle.feedtrace.specs.WrittenTasks.{TaskReadsBack};
 
 use crate::expected::Expected;
 use crate::field::Fields;
+use crate::part::Part;
 use crate::task::Task;
 use crate::verb::Verb;
 use console::line::split_word;
@@ -80,6 +82,7 @@ impl Fields<'_> {
             Verb::Lookup => Some(Task::Lookup(self.number()?)),
             Verb::Scan => Some(Task::Scan(self.triple()?.into())),
             Verb::Trace => Some(Task::Trace(self.number()?)),
+            Verb::Filter => self.filter(),
         }
     }
 
@@ -118,5 +121,21 @@ impl Fields<'_> {
         self.from_word()?;
         let bound = self.number()?;
         (wanted.value(position) == ANY).then_some(Task::Leap(position, wanted.into(), bound))
+    }
+
+    /// The filter of an alternative; or, where one number more stands, of a block of it.
+    fn filter(&mut self) -> Option<Task>
+        ensures { Parted result self.new.rest.now (filter_form self.old.rest.now) }
+    {
+        let alternative = self.number()?;
+        let behind = *self;
+        let row = self.row_values()?;
+        if self.rest.is_empty() {
+            return Some(Task::Filter(Part::Alternative(alternative), row));
+        }
+        *self = behind;
+        let block = self.number()?;
+        let row = self.row_values()?;
+        Some(Task::Filter(Part::Block(alternative, block), row))
     }
 }

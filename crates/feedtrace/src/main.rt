@@ -16,6 +16,7 @@ mod load;
 mod loading;
 mod number;
 mod outcome;
+mod part;
 mod read_line;
 mod session;
 mod table_line;

@@ -1,5 +1,6 @@
 //! What a task comes to.
 use catalogue::kind::Kind;
+use filter::truth::Truth;
 use triples::triple::Triple;
 
 /// What a task comes to, where it is carried out.
@@ -42,4 +43,6 @@ pub enum Outcome {
     Triples(Vec<Triple>),
     /// The terms reached.
     Terms(Vec<u32>),
+    /// The truth of a filter.
+    Truth(Truth),
 }

@@ -1,11 +1,12 @@
-//! What the console does with tables, layers, and what they hold.
+//! What the console does with tables, layers, what they hold, and the filters of a query.
+use crate::part::Part;
 use crate::verb::Verb;
 use triples::position::Position;
 use triples::selector::Selector;
 use triples::triple::Triple;
 
 // Kept as an enum: a line is read whole before its task is carried out, and its contract says what it asks.
-/// A task about stores and catalogues.
+/// A task about stores, catalogues, and the filters of a query.
 #[derive(Clone, Copy)]
 pub enum Task {
     /// Begins a row store of that top.
@@ -36,4 +37,6 @@ pub enum Task {
     Scan(Selector),
     /// Lists the terms that the term reaches.
     Trace(u32),
+    /// Asks for the truth of the part's filter on the row: a value for each variable, 0 where it has none.
+    Filter(Part, [u32; 16]),
 }

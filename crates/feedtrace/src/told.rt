@@ -34,6 +34,7 @@ impl fmt::Display for Outcome {
             Outcome::Entry { kind, value } => write!(f, "{kind} {value}"),
             Outcome::Triples(triples) => put_lines(triples.as_slice(), "triples", f),
             Outcome::Terms(terms) => put_lines(terms.as_slice(), "terms reached", f),
+            Outcome::Truth(truth) => write!(f, "{truth}"),
         }
     }
 }

@@ -33,6 +33,8 @@ pub enum Verb {
     Scan,
     /// The word `trace`.
     Trace,
+    /// The word `filter`.
+    Filter,
 }
 
 impl Verb {
@@ -53,6 +55,7 @@ impl Verb {
             b"lookup" => Some(Verb::Lookup),
             b"scan" => Some(Verb::Scan),
             b"trace" => Some(Verb::Trace),
+            b"filter" => Some(Verb::Filter),
             _ => None,
         }
     }
@@ -76,6 +79,7 @@ impl fmt::Display for Verb {
             Verb::Lookup => "lookup N",
             Verb::Scan => "scan A B C",
             Verb::Trace => "trace N",
+            Verb::Filter => "filter A V0 .. V15, or filter A B V0 .. V15",
         })
     }
 }

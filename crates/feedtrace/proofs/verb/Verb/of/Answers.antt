@@ -42,3 +42,6 @@ returns-in-scan c = verb_of-reads c.args.word.now (codes "scan") (omega arith) (
 
 pub returns-in-trace : goal.returns-in-trace
 returns-in-trace c = verb_of-reads c.args.word.now (codes "trace") (omega arith) (search rules)
+
+pub returns-in-filter : goal.returns-in-filter
+returns-in-filter c = verb_of-reads c.args.word.now (codes "filter") (omega arith) (search rules)
