@@ -30,3 +30,6 @@ pub mod BasicPatterns  -- a basic graph pattern in words
 pub mod Numbered  -- the answers of each alternative
 pub mod Solutions  -- the solutions of an alternative in words
 pub mod Completeness  -- the walk lists the answers
+pub mod Bits  -- the bits of a mask
+pub mod Packings  -- answers as bytes
+pub mod Bounds  -- how large the numbers of a query's answers are

@@ -1,15 +1,16 @@
 -- What this crate proves of every query, store and catalogue. Assumes nothing.
 use Rattle.std.specs.Prelude.{◌≡◌, ℕ, ◌+◌, ◌<◌, ◌≤◌, Bool, true, cond, not, ◌&&◌, ◌||◌, List}
-use Rattle.std.specs.Prelude.{◌⊎◌, ◌∷◌, length, slice_index_or}
+use Rattle.std.specs.Prelude.{◌⊎◌, ◌∷◌, length, slice_index_or, Some}
 use Rattle.std.specs.List.{filter, flat_map, list_all, AllByRecursion}
+use Rattle.varint.specs.Encode.{largest}
 use Rattle.catalogue.specs.Entries.{Entry}
 use Rattle.query.specs.declared.pattern.TriplePattern.{TriplePattern}
 use Rattle.query.specs.Lawful.{total}
-use Rattle.query.specs.Limits.{variables}
+use Rattle.query.specs.Limits.{variables, most_alternatives}
 use Rattle.query.specs.Parts.{Group}
 use Rattle.triples.specs.declared.triple.Triple.{Triple}
-use Rattle.triples.specs.Meaning.{Meaning}
-use Rattle.filter.specs.Rows.{Row}
+use Rattle.triples.specs.Meaning.{Meaning, largest_top}
+use Rattle.filter.specs.Rows.{Row, has_value}
 use Rattle.algebra.specs.Patterns.{blank, with_value, stored, open_variables}
 use Rattle.algebra.specs.Algebra.{bgp, compatible, merge, join, diff, union, left_join}
 use Rattle.algebra.specs.Answers.{Answer, solutions, answers_to, same_row, times, times_answered}
@@ -17,6 +18,7 @@ use Rattle.algebra.specs.Order.{Precedes, Ascending, no_group, parts_of}
 use Rattle.algebra.specs.Admissions.{Admission, Completes, Lawful, every_term, possible, look_ahead, Matches}
 use Rattle.algebra.specs.Walk.{try, answers, admitted, walk_part, walk}
 use Rattle.algebra.specs.Words.{Answered}
+use Rattle.algebra.specs.Packing.{mask, bit, packed, unpacked, Bounded, most_packed}
 
 -- the walk lists the query's answers: each as often as the algebra counts it, in the order, none twice
 pub record ListsAll (m : Meaning) (e : ℕ → Entry) (q : List Group) (admits : Admission) : Type 0 where
@@ -130,3 +132,15 @@ abbrev pub OnlyCountsMatter : Type 0
 OnlyCountsMatter = (test : Row → Bool) (left right other_left other_right : List Row)
     → AsOften left other_left → AsOften right other_right
     → MadeAsOften test left right other_left other_right
+
+-- the bytes of answers: in a mask, bit v is 1 exactly if variable v, of the sixteen, has a value; an answer
+-- whose numbers have at most 32 bits is read back from its bytes; no two such answers have the same bytes; an
+-- answer of eight alternatives and of terms takes at most 52 bytes; and so small is every answer of the query
+pub record BytesSayTheAnswer (m : Meaning) (e : ℕ → Entry) (q : List Group) : Type 0 where
+  pub bits : (r : Row) (v : ℕ) → v < variables → bit (mask r) v ≡ has_value r v
+  pub read_back : (a : Answer) → Bounded largest largest a → unpacked (packed a) ≡ Some a
+  pub apart : (a b : Answer) → Bounded largest largest a → Bounded largest largest b → packed a ≡ packed b
+      → a ≡ b
+  pub short : (a : Answer) → Bounded most_alternatives largest_top a → length (packed a) ≤ most_packed
+  pub small : (a : Answer) → 0 < times_answered a (answers_to m e q)
+      → Bounded most_alternatives largest_top a
