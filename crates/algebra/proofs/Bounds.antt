@@ -1,6 +1,6 @@
 -- How large the numbers of a query's answers are. Assumes nothing.
-use Rattle.std.proofs.Common.{◌≡◌, ℕ, zero, suc, ◌+◌, ◌<◌, ◌≤◌, true, List, length, get_or, Some, None, Option}
-use Rattle.std.proofs.Common.{refl, ap, ◌∙◌, subst, ⊎_elim, arith, not}
+use Rattle.std.proofs.Common.{◌≡◌, ℕ, zero, suc, ◌+◌, ◌<◌, ◌≤◌, true, not, List, length, get_or, Some, None}
+use Rattle.std.proofs.Common.{Option, refl, ap, ◌∙◌, subst, ⊎_elim, arith}
 use Rattle.std.proofs.lemmas.Bool.{and_parts, cases_lt}
 use Rattle.std.specs.List.{list_any}
 use Rattle.catalogue.specs.Entries.{Entry}
@@ -13,7 +13,7 @@ use Rattle.filter.specs.Rows.{Row, value}
 use Rattle.algebra.specs.Answers.{Answer, answers_to, times_answered}
 use Rattle.algebra.specs.Order.{part_of, no_group}
 use Rattle.algebra.specs.Words.{Answered}
-use Rattle.algebra.specs.Packing.{Bounded}
+use Rattle.algebra.specs.Packing.{Bounded, highest_alternative}
 use Rattle.algebra.proofs.Numbered.{once_in_each}
 use Rattle.algebra.proofs.Owners.{required_holds, block_holds}
 use Rattle.algebra.proofs.Patterns.{stored-terms}
@@ -31,8 +31,9 @@ module _ (m : Meaning) (e : ℕ → Entry) (sound : Sound m) where
       ⊎_elim (λ x. let term = x.values v here in term.small) (λ l. omega (arith, l.valueless v here))
       (a.blocks i (block_holds g i v here).0)
 
+  -- an answer of the query has the number of one of its alternatives, and a row of terms
   pub answers-bounded : (q : List Group) → lawful q ≡ true → (a : Answer)
-      → 0 < times_answered a (answers_to m e q) → Bounded most_alternatives largest_top a
+      → 0 < times_answered a (answers_to m e q) → Bounded highest_alternative largest_top a
   answers-bounded q h a some =
       let once = once_in_each m e q h in
       let few = within_high 1 most_alternatives (length q)

@@ -9,7 +9,7 @@ use Rattle.std.proofs.lemmas.List.{ext_get_or, append-nil}
 use Rattle.std.proofs.lemmas.List.FromFn.{length-map-range_with_len, get_or-map-range_with_len}
 use Rattle.std.specs.List.{filter, flat_map, AllByRecursion}
 use Rattle.varint.specs.Encode.{encode, largest, groups}
-use Rattle.query.specs.Limits.{variables, most_alternatives}
+use Rattle.query.specs.Limits.{variables}
 use Rattle.query.specs.Readers.{Reader, took, number, both, next as hand_on}
 use Rattle.query.proofs.Readers.{number_codec}
 use Rattle.query.proofs.Sequences.{both_back}
@@ -17,14 +17,15 @@ use Rattle.triples.specs.Meaning.{largest_top}
 use Rattle.filter.specs.Rows.{Row, none, value, has_value}
 use Rattle.algebra.specs.Patterns.{numbers}
 use Rattle.algebra.specs.Answers.{Answer}
-use Rattle.algebra.specs.Packing.{mask, packed, bit, read_values, read_row, whole, unpacked, Bounded, most_packed}
+use Rattle.algebra.specs.Packing.{mask, packed, bit, read_values, read_row, whole, unpacked, Bounded}
+use Rattle.algebra.specs.Packing.{highest_alternative, most_packed}
 use Rattle.algebra.proofs.Bits.{mask-small, bit-mask}
 use Rattle.algebra.proofs.Lists.{filter-yes, filter-no, all-weaker}
 use Rattle.algebra.proofs.Rows.{has_value-no, all-range}
 
 -- values
 
--- the bytes of the values of these variables
+-- the bytes of the values that these variables have
 abbrev code : Row → List ℕ → List ℕ
 code r vs = flat_map encode (map (value r) (filter (has_value r) vs))
 
@@ -71,12 +72,13 @@ code_row r = encode (mask r) ++ code r numbers
 row-back : (r : Row) → length r ≡ variables → ((v : ℕ) → value r v ≤ largest) → (at : ℕ) (rest : List ℕ)
     → read_row at (code_row r ++ rest) ≡ took r (at + length (code_row r)) rest
 row-back r long small at rest =
+    let mid = at + length (encode (mask r)) in
+    let same = all-weaker (λ v. (0 ≤ v) × (v < 0 + variables)) (λ v. bit (mask r) v ≡ has_value r v)
+    (λ v h. bit-mask r v (omega (arith, h.1))) numbers (all-range 0 variables) in
     both_back number (λ n. read_values n numbers) (λ _ s. s) encode (λ k. k ≤ largest) number_codec (mask r) r
     (code r numbers) at rest (omega (arith, mask-small r))
-    (values-back r (mask r) small numbers
-    (all-weaker (λ v. (0 ≤ v) × (v < 0 + variables)) (λ v. bit (mask r) v ≡ has_value r v)
-    (λ v h. bit-mask r v (omega (arith, h.1))) numbers (all-range 0 variables)) (at + length (encode (mask r))) rest
-    ∙ ap (λ s. took s (at + length (encode (mask r)) + length (code r numbers)) rest) (values-row r long))
+    (values-back r (mask r) small numbers same mid rest
+    ∙ ap (λ s. took s (mid + length (code r numbers)) rest) (values-row r long))
 
 -- an answer is read back from its bytes
 pub unpacked-packed : (a : Answer) → Bounded largest largest a → unpacked (packed a) ≡ Some a
@@ -87,18 +89,20 @@ unpacked-packed a h =
     (row-back a.row h.long h.small (0 + length (encode a.alternative)) []))
 
 -- no two answers have the same bytes
-pub packed-apart : (a b : Answer) → Bounded largest largest a → Bounded largest largest b → packed a ≡ packed b
-    → a ≡ b
+pub packed-apart : (a b : Answer) → Bounded largest largest a → Bounded largest largest b
+    → packed a ≡ packed b → a ≡ b
 packed-apart a b h k e =
     let same : Some a ≡ Some b = sym (unpacked-packed a h) ∙ ap unpacked e ∙ unpacked-packed b k in cc
 
 -- length
 
+-- a number of so few groups takes no more bytes
 groups-few : (k n j : ℕ) → n < 128 ^ suc j → length (groups k n) ≤ suc j
 groups-few zero n j h = omega arith
 groups-few (suc k) n zero h =
-    let less : n < 128 = omega arith in
-    omega (arith, ap length (cond-true (ltb n 128) (n ∷ []) ((128 + n % 128) ∷ groups k (n / 128)) (lt-ltb n 128 less)))
+    let last = cond-true (ltb n 128) (n ∷ []) ((128 + n % 128) ∷ groups k (n / 128))
+    (lt-ltb n 128 (omega arith)) in
+    omega (arith, ap length last)
 groups-few (suc k) n (suc j) h =
     cond_both (ltb n 128) (n ∷ []) ((128 + n % 128) ∷ groups k (n / 128)) (λ bs. length bs ≤ suc (suc j))
     (λ _. omega arith)
@@ -109,6 +113,7 @@ length-encode_few : (n j : ℕ) → n < 128 ^ suc j → length (encode n) ≤ su
 unfolding encode
 length-encode_few n j h = groups-few 4 n j h
 
+-- a value takes at most three bytes
 length-code : (r : Row) → ((v : ℕ) → value r v ≤ largest_top) → (vs : List ℕ)
     → length (code r vs) ≤ 3 * length vs
 length-code r small [] = omega arith
@@ -125,7 +130,7 @@ length-code r small (v ∷ vs) =
     (λ f. omega (arith, later, ap length (code-no r v vs f)))
     (cases_Bool (has_value r v))
 
-pub length-packed : (a : Answer) → Bounded most_alternatives largest_top a → length (packed a) ≤ most_packed
+pub length-packed : (a : Answer) → Bounded highest_alternative largest_top a → length (packed a) ≤ most_packed
 length-packed a h =
     omega (
       arith,

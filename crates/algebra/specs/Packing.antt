@@ -1,14 +1,14 @@
 -- An answer as bytes: its alternative, which variables have values, and these values. Assumes nothing.
---     packed a                  the bytes of the answer
---     unpacked bytes            the answer that the bytes say, number by number as the number format reads them
---     Bounded high top a        the answer's numbers are so small
---     most_packed               the most bytes that an answer of a query takes
-use Rattle.std.specs.Prelude.{◌≡◌, ℕ, ◌+◌, ◌*◌, ◌/◌, ◌%◌, ◌^◌, ◌≤◌, Bool, cond, List, [], ◌∷◌, ◌++◌, length}
-use Rattle.std.specs.Prelude.{map, ◌==◌, Some, None, Option}
+--     packed a              the bytes of the answer
+--     unpacked bytes        the answer that the bytes say, number by number as the number format reads them
+--     Bounded high top a    the answer has sixteen values, and its numbers are so small
+--     most_packed           the most bytes that an answer of a query takes
+use Rattle.std.specs.Prelude.{◌≡◌, ℕ, ◌+◌, ◌-◌, ◌*◌, ◌/◌, ◌%◌, ◌^◌, ◌≤◌, Bool, cond, List, [], ◌∷◌, ◌++◌}
+use Rattle.std.specs.Prelude.{length, map, ◌==◌, Some, None, Option}
 use Rattle.std.specs.List.{filter, flat_map}
 use Rattle.varint.specs.Encode.{encode}
 use Rattle.query.specs.Lawful.{total}
-use Rattle.query.specs.Limits.{variables}
+use Rattle.query.specs.Limits.{variables, most_alternatives}
 use Rattle.query.specs.Readers.{Read, took, refused, Reader, number, both}
 use Rattle.filter.specs.Rows.{Row, none, value, has_value}
 use Rattle.algebra.specs.Patterns.{numbers}
@@ -60,6 +60,10 @@ pub record Bounded (high top : ℕ) (a : Answer) : Type 0 where
   pub numbered : a.alternative ≤ high
   pub long : length a.row ≡ variables
   pub small : (v : ℕ) → value a.row v ≤ top
+
+-- the highest number of an alternative of a query
+abbrev pub highest_alternative : ℕ
+highest_alternative = most_alternatives - 1
 
 -- the most bytes that an answer of a query takes: one for the alternative, three for the mask, and three for
 -- each of sixteen terms

@@ -6,7 +6,7 @@ use Rattle.varint.specs.Encode.{largest}
 use Rattle.catalogue.specs.Entries.{Entry}
 use Rattle.query.specs.declared.pattern.TriplePattern.{TriplePattern}
 use Rattle.query.specs.Lawful.{total}
-use Rattle.query.specs.Limits.{variables, most_alternatives}
+use Rattle.query.specs.Limits.{variables}
 use Rattle.query.specs.Parts.{Group}
 use Rattle.triples.specs.declared.triple.Triple.{Triple}
 use Rattle.triples.specs.Meaning.{Meaning, largest_top}
@@ -18,7 +18,8 @@ use Rattle.algebra.specs.Order.{Precedes, Ascending, no_group, parts_of}
 use Rattle.algebra.specs.Admissions.{Admission, Completes, Lawful, every_term, possible, look_ahead, Matches}
 use Rattle.algebra.specs.Walk.{try, answers, admitted, walk_part, walk}
 use Rattle.algebra.specs.Words.{Answered}
-use Rattle.algebra.specs.Packing.{mask, bit, packed, unpacked, Bounded, most_packed}
+use Rattle.algebra.specs.Packing.{mask, bit, packed, unpacked, Bounded}
+use Rattle.algebra.specs.Packing.{highest_alternative, most_packed}
 
 -- the walk lists the query's answers: each as often as the algebra counts it, in the order, none twice
 pub record ListsAll (m : Meaning) (e : ℕ → Entry) (q : List Group) (admits : Admission) : Type 0 where
@@ -133,14 +134,17 @@ OnlyCountsMatter = (test : Row → Bool) (left right other_left other_right : Li
     → AsOften left other_left → AsOften right other_right
     → MadeAsOften test left right other_left other_right
 
--- the bytes of answers: in a mask, bit v is 1 exactly if variable v, of the sixteen, has a value; an answer
--- whose numbers have at most 32 bits is read back from its bytes; no two such answers have the same bytes; an
--- answer of eight alternatives and of terms takes at most 52 bytes; and so small is every answer of the query
+-- what the bytes of answers say, and how many there are
 pub record BytesSayTheAnswer (m : Meaning) (e : ℕ → Entry) (q : List Group) : Type 0 where
+  -- bit v of a row's mask is 1 exactly if variable v has a value
   pub bits : (r : Row) (v : ℕ) → v < variables → bit (mask r) v ≡ has_value r v
+  -- an answer whose numbers have at most 32 bits is read back from its bytes
   pub read_back : (a : Answer) → Bounded largest largest a → unpacked (packed a) ≡ Some a
-  pub apart : (a b : Answer) → Bounded largest largest a → Bounded largest largest b → packed a ≡ packed b
-      → a ≡ b
-  pub short : (a : Answer) → Bounded most_alternatives largest_top a → length (packed a) ≤ most_packed
+  -- no two such answers have the same bytes
+  pub apart : (a b : Answer) → Bounded largest largest a → Bounded largest largest b
+      → packed a ≡ packed b → a ≡ b
+  -- an answer of an alternative below 8 and of terms, or no values, takes at most 52 bytes
+  pub short : (a : Answer) → Bounded highest_alternative largest_top a → length (packed a) ≤ most_packed
+  -- such is every answer of the query
   pub small : (a : Answer) → 0 < times_answered a (answers_to m e q)
-      → Bounded most_alternatives largest_top a
+      → Bounded highest_alternative largest_top a
