@@ -11,24 +11,10 @@ use Rattle.query.specs.Limits.{variables}
 use Rattle.filter.specs.Rows.{Row, has_value}
 use Rattle.algebra.specs.Packing.{mask, bit}
 
--- bits
+-- arithmetic
 
 twice : (a : ℕ) → 2 ^ (a + 1) ≡ 2 ^ a * 2
 twice a = ap (λ k. 2 ^ k) (add-one a) ∙ pow-suc 2 a
-
-abbrev bits : (ℕ → Bool) → ℕ → ℕ → ℕ
-bits p a n = total (λ v. cond (p v) (2 ^ v) 0) (range_with_len a n)
-
--- the number stays below the bit behind its last
-bits-below : (p : ℕ → Bool) (a n : ℕ) → bits p a n + 2 ^ a ≤ 2 ^ (a + n)
-bits-below p a zero = omega (arith, ap (λ k. 2 ^ k) (add-zero a))
-bits-below p a (suc n) =
-    let later = bits-below p (a + 1) n in
-    let same : 2 ^ (a + 1 + n) ≡ 2 ^ (a + suc n) = ap (λ k. 2 ^ k) (omega arith) in
-    ⊎_elim
-    (λ t. omega (arith, later, same, twice a, cond-true (p a) (2 ^ a) 0 t))
-    (λ f. omega (arith, later, same, twice a, cond-false (p a) (2 ^ a) 0 f))
-    (cases_Bool (p a))
 
 -- so many times twice a number, and once more if c is 1
 odd_times : (u c x : ℕ) → (u * 2 + c) * x ≡ u * (x * 2) + c * x
@@ -44,6 +30,23 @@ one-if false = refl
 bit-at : (b : Bool) (x : ℕ) → cond b x 0 ≡ cond b 1 0 * x
 bit-at true x = omega arith
 bit-at false x = omega arith
+
+-- bits
+
+-- the number whose bit v, from a on and below a + n, is 1 exactly if v passes p
+abbrev bits : (ℕ → Bool) → ℕ → ℕ → ℕ
+bits p a n = total (λ v. cond (p v) (2 ^ v) 0) (range_with_len a n)
+
+-- the number stays below the bit behind its last
+bits-below : (p : ℕ → Bool) (a n : ℕ) → bits p a n + 2 ^ a ≤ 2 ^ (a + n)
+bits-below p a zero = omega (arith, ap (λ k. 2 ^ k) (add-zero a))
+bits-below p a (suc n) =
+    let later = bits-below p (a + 1) n in
+    let same : 2 ^ (a + 1 + n) ≡ 2 ^ (a + suc n) = ap (λ k. 2 ^ k) (omega arith) in
+    ⊎_elim
+    (λ t. omega (arith, later, same, twice a, cond-true (p a) (2 ^ a) 0 t))
+    (λ f. omega (arith, later, same, twice a, cond-false (p a) (2 ^ a) 0 f))
+    (cases_Bool (p a))
 
 -- where what follows is so many times its first bit, it is twice as many times the bit before, and once more
 -- if that is 1

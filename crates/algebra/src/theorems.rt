@@ -76,8 +76,7 @@ pub fn worked_examples()
     ensures { WorkedExamples }
 {}
 
-/// An answer is read back from its bytes, no two answers have the same, and an answer of a query takes at most
-/// 52 bytes.
+/// An answer is read back from its bytes, no two have the same bytes, and a query's answer takes at most 52.
 pub fn bytes_say_the_answer<S: Store, C: Catalogue>(query: &Query, store: &S, catalogue: &C)
     ensures { BytesSayTheAnswer (S.Store.meaning store.now) (C.Catalogue.entries catalogue.now)
         (shape query.now) }
