@@ -35,6 +35,10 @@ pub mod RowsInWork  -- what the walk has of a row when its first blocks are done
 pub mod ToWords  -- what is listed is an answer in words
 pub mod FromWords  -- an answer in words is listed
 pub mod Solutions  -- the solutions of an alternative in words
+-- answers as bytes
+pub mod Bits  -- the bits of a mask
+pub mod Packings  -- answers as bytes
+pub mod Bounds  -- how large the numbers of a query's answers are
 -- what meets in the theorems
 pub mod Numbered  -- the answers of each alternative
 pub mod Completeness  -- the walk lists the answers

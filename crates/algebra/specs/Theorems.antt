@@ -1,15 +1,16 @@
 -- What this crate proves of every query, store and catalogue. Assumes nothing.
 use Rattle.std.specs.Prelude.{◌≡◌, ℕ, ◌+◌, ◌<◌, ◌≤◌, Bool, true, cond, not, ◌&&◌, ◌||◌, List}
-use Rattle.std.specs.Prelude.{◌⊎◌, ◌∷◌, length, slice_index_or, ◌≢◌}
+use Rattle.std.specs.Prelude.{◌⊎◌, ◌∷◌, length, slice_index_or, ◌≢◌, Some}
 use Rattle.std.specs.List.{filter, flat_map, list_all, AllByRecursion}
+use Rattle.varint.specs.Encode.{largest}
 use Rattle.catalogue.specs.Entries.{Entry}
 use Rattle.query.specs.declared.pattern.TriplePattern.{TriplePattern}
 use Rattle.query.specs.Lawful.{mentions, total}
 use Rattle.query.specs.Limits.{variables}
 use Rattle.query.specs.Parts.{Group}
 use Rattle.triples.specs.declared.triple.Triple.{Triple}
-use Rattle.triples.specs.Meaning.{Meaning, Term}
-use Rattle.filter.specs.Rows.{Row, none, value}
+use Rattle.triples.specs.Meaning.{Meaning, Term, largest_top}
+use Rattle.filter.specs.Rows.{Row, none, value, has_value}
 use Rattle.algebra.specs.Patterns.{blank, with_value, stored, Stored}
 use Rattle.algebra.specs.Algebra.{bgp, compatible, merge, join, diff, union, left_join}
 use Rattle.algebra.specs.Answers.{Answer, solutions, answers_to, same_row, times, times_answered}
@@ -17,6 +18,8 @@ use Rattle.algebra.specs.Order.{Precedes, Ascending, no_group, parts_of}
 use Rattle.algebra.specs.Admissions.{Admission, Completes, Lawful, every_term, look_ahead, Matches}
 use Rattle.algebra.specs.Walk.{try, answers, answer_if, admitted, walk_part, walk}
 use Rattle.algebra.specs.Words.{Answered}
+use Rattle.algebra.specs.Packing.{mask, bit, packed, unpacked, Bounded}
+use Rattle.algebra.specs.Packing.{highest_alternative, most_packed}
 
 -- the walk lists the query's answers: each as often as the algebra counts it, in the order, none twice
 pub record ListsAll (m : Meaning) (e : ℕ → Entry) (q : List Group) (admits : Admission) : Type 0 where
@@ -143,3 +146,18 @@ abbrev pub OnlyCountsMatter : Type 0
 OnlyCountsMatter = (test : Row → Bool) (left right other_left other_right : List Row)
     → AsOften left other_left → AsOften right other_right
     → MadeAsOften test left right other_left other_right
+
+-- what the bytes of answers say, and how many there are
+pub record BytesSayTheAnswer (m : Meaning) (e : ℕ → Entry) (q : List Group) : Type 0 where
+  -- bit v of a row's mask is 1 exactly if variable v has a value
+  pub bits : (r : Row) (v : ℕ) → v < variables → bit (mask r) v ≡ has_value r v
+  -- an answer whose numbers have at most 32 bits is read back from its bytes
+  pub read_back : (a : Answer) → Bounded largest largest a → unpacked (packed a) ≡ Some a
+  -- no two such answers have the same bytes
+  pub apart : (a b : Answer) → Bounded largest largest a → Bounded largest largest b
+      → packed a ≡ packed b → a ≡ b
+  -- an answer of an alternative below 8 and of terms, or no values, takes at most 52 bytes
+  pub short : (a : Answer) → Bounded highest_alternative largest_top a → length (packed a) ≤ most_packed
+  -- such is every answer of the query
+  pub small : (a : Answer) → 0 < times_answered a (answers_to m e q)
+      → Bounded highest_alternative largest_top a

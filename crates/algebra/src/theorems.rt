@@ -5,7 +5,7 @@ ghost use Rattle.algebra.specs.Examples.{WorkedExamples};
 ghost use Rattle.algebra.specs.Theorems.{WalkListsAnswers, SolutionsInWords, OnceInEach};
 ghost use Rattle.algebra.specs.Theorems.{SameUnderAllPruners, PrunersLawful, LookAheadInWords};
 ghost use Rattle.algebra.specs.Theorems.{OrderIsTotal, WalkTakesTheLowest, BasicPatterns};
-ghost use Rattle.algebra.specs.Theorems.{CountedAsDefined, OnlyCountsMatter};
+ghost use Rattle.algebra.specs.Theorems.{CountedAsDefined, OnlyCountsMatter, BytesSayTheAnswer};
 
 use catalogue::catalogue::Catalogue;
 use query::query::Query;
@@ -76,4 +76,10 @@ pub fn only_counts_matter()
 /// The worked examples hold of the definitions.
 pub fn worked_examples()
     ensures { WorkedExamples }
+{}
+
+/// An answer is read back from its bytes, no two have the same bytes, and a query's answer takes at most 52.
+pub fn bytes_say_the_answer<S: Store, C: Catalogue>(query: &Query, store: &S, catalogue: &C)
+    ensures { BytesSayTheAnswer (S.Store.meaning store.now) (C.Catalogue.entries catalogue.now)
+        (shape query.now) }
 {}
