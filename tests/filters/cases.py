@@ -165,9 +165,9 @@ def case(random):
                 commands.append(f"filter {a} {b} {values}")
                 wanted.append(words[truth(nodes, row, said)])
             commands.append(f"filter {a} {len(blocks)} {values}")
-            wanted.append("error: ")
+            wanted.append("error: expected a block of the current query")
         commands.append(f"filter {len(alternatives)} {values}")
-        wanted.append("error: ")
+        wanted.append("error: expected an alternative of the current query")
     return commands, wanted
 
 
@@ -178,7 +178,8 @@ def main(program, seed, count):
         more, answers = case(random)
         commands += more
         wanted += answers
-    done = subprocess.run([program], input="\n".join(commands) + "\n", text=True, stdout=subprocess.PIPE, check=True)
+    lines = "\n".join(commands) + "\n"
+    done = subprocess.run([program], input=lines, text=True, stdout=subprocess.PIPE, check=True)
     got = done.stdout.splitlines()
     if len(got) != len(wanted):
         sys.exit(f"{len(got)} answers, {len(wanted)} expected")

@@ -60,6 +60,7 @@ examples_hold = record {
   triple_without_the_variable_tested = refl;
   each_block_by_itself = refl;
   long_numbers_packed = refl;
+  left_out_after_the_tries = refl;
   error_leaves_the_row = refl;
   nothing_asked_answered_once = refl;
   blank_row_packed = refl;

@@ -28,8 +28,8 @@ use Rattle.algebra.proofs.Completions.{rising-open}
 use Rattle.algebra.proofs.Listing.{fitting}
 use Rattle.algebra.proofs.Marks.{answers-flat_map, answers-answer_if}
 
--- a value from 1 to the top is admitted if some completion of the row with it has all the part's triples in
--- the store and passes p
+-- a term with which the row has a completion that passes p, and is in the store with all the part's triples,
+-- is admitted
 abbrev Protects : Meaning → (Row → Bool) → Admission → Type 0
 Protects m p admits = (ts : List TriplePattern) (r : Row) (v x : ℕ) (s : Row) → Term m.top x
     → Completes m.top ts (with_value r v x) s → stored m ts s ≡ true → p s ≡ true → admits ts r v x ≡ true

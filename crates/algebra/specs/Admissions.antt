@@ -27,8 +27,8 @@ pub record Completes (top : ℕ) (ts : List TriplePattern) (r s : Row) : Type 0 
   pub kept : (v : ℕ) → (variables ≤ v) ⊎ ((mentions v ts ≡ false) ⊎ (value r v ≢ none))
       → value s v ≡ value r v
 
--- a value is admitted if some completion of the row with it has all the part's triples in the store; and only
--- values from 1 to the top are
+-- a term is admitted if the row with it has a completion under which all the part's triples are stored; and
+-- nothing but terms from 1 to the top is
 pub record Lawful (m : Meaning) (admits : Admission) : Type 0 where
   pub keeps : (ts : List TriplePattern) (r : Row) (v x : ℕ) (s : Row) → Term m.top x
       → Completes m.top ts (with_value r v x) s → Stored m ts s → admits ts r v x ≡ true

@@ -29,8 +29,8 @@ deliveries = listed 6 (triple 1 4 2 ∷ triple 1 4 3 ∷ triple 2 5 6 ∷ [])
 abbrev pub names : ℕ → Entry
 names n = unlisted
 
--- what lot 1 went into, and where that went on to, if anywhere: required is (1, 4, variable 0), and the one
--- block is (variable 0, 5, variable 1)
+-- what did lot 1 go into, and what did each of these go on to, if it is known: required is
+-- (1, 4, variable 0), and the one block is (variable 0, 5, variable 1)
 abbrev pub onward : List ℕ
 onward = 0x01 ∷ 0x01 ∷ 0x02 ∷ 0x08 ∷ 0x01 ∷ 0x01 ∷ 0x01 ∷ 0x01 ∷ 0x0A ∷ 0x03 ∷ 0x00 ∷ 0x00 ∷ []
 

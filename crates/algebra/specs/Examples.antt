@@ -93,6 +93,10 @@ pub record WorkedExamples : Type 0 where
   -- alternative 1, variable 7 alone (mask 80 01), whose value is 300 (AC 02)
   pub long_numbers_packed : packed (in_alternative 1 (with_value blank 7 300))
       ≡ 0x01 ∷ 0x80 ∷ 0x01 ∷ 0xAC ∷ 0x02 ∷ []
+  -- the row that a block leaves as it is goes on after all the tries of the block, of which none fits
+  pub left_out_after_the_tries : of_bytes (walked look_ahead) onward_by_less
+      ≡ Some (try 0 2 ∷ try 1 6 ∷ answer (in_alternative 0 first_batch_alone)
+      ∷ try 0 3 ∷ answer (in_alternative 0 second_batch_alone) ∷ [])
   -- an error in a block's filter is no fit: both rows go on without the block
   pub error_leaves_the_row : of_bytes defined onward_by_less
       ≡ Some (in_alternative 0 first_batch_alone ∷ in_alternative 0 second_batch_alone ∷ [])

@@ -1,5 +1,5 @@
 -- In which order answers come. Assumes nothing.
---     first_part g v         the first part of the alternative whose triples hold v
+--     first_part g v      the first part of the alternative whose triples hold v
 --     Before g r s        among the answers of g, r comes before s
 --     Precedes q a b      among the answers of q, a comes before b
 --     Ascending R xs      each element of xs is before every later one

@@ -32,7 +32,7 @@ pub record ListsAll (m : Meaning) (e : ℕ → Entry) (q : List Group) (admits :
 abbrev pub WalkListsAnswers : Meaning → (ℕ → Entry) → List Group → Type 0
 WalkListsAnswers m e q = (admits : Admission) → Lawful m admits → ListsAll m e q admits
 
--- two lawful admissions give the same answers in the same order
+-- the list of answers is the same under any two lawful admissions
 abbrev pub SameUnderAllPruners : Meaning → (ℕ → Entry) → List Group → Type 0
 SameUnderAllPruners m e q = (one other : Admission) → Lawful m one → Lawful m other
     → answers (walk m e one q) ≡ answers (walk m e other q)

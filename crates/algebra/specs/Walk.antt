@@ -40,8 +40,9 @@ answer_if test a = cond test (answer a ∷ []) []
 abbrev pub admitted : Meaning → Admission → List TriplePattern → Row → ℕ → List ℕ
 admitted m admits ts r v = filter (admits ts r v) (terms m.top)
 
--- the walk of a part through the variables given: each admitted value of the first gives a try, and then the
--- walk through the others from the row with it; with no variable left the row is an answer if it fits
+-- the walk of a part through the variables given: for each value that is admitted for the first, ascending,
+-- a try of it, and what the walk through the others makes of the row with it; after the last variable, the
+-- row is an answer if it fits
 abbrev pub walk_through : Meaning → Admission → List TriplePattern → (Row → Bool) → List ℕ → Row
     → List (Mark Row)
 walk_through m admits ts fits [] r = answer_if (fits r) r

@@ -30,7 +30,7 @@ pub fn once_in_each<S: Store, C: Catalogue>(query: &Query, store: &S, catalogue:
     ensures { OnceInEach (S.Store.meaning store.now) (C.Catalogue.entries catalogue.now) (shape query.now) }
 {}
 
-/// Two pruners that keep the law give the same answers in the same order.
+/// Which pruner is asked does not change the list of answers, if it keeps the law.
 pub fn same_under_all_pruners<S: Store, C: Catalogue>(query: &Query, store: &S, catalogue: &C)
     ensures { SameUnderAllPruners (S.Store.meaning store.now) (C.Catalogue.entries catalogue.now)
         (shape query.now) }

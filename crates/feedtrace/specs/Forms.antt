@@ -114,12 +114,12 @@ abbrev pub formed : Verb → List ℕ → Option Task → Result (Option Task) E
 formed v rest None = cond (begins_table v rest) (Ok (Some (task.MalformedTable v))) (Err (expected.Form v))
 formed v rest (Some c) = Ok (Some c)
 
--- what a first word with what follows it asks of tables and layers: nothing, a task, a table that is
+-- what a first word with what follows it asks of tables, layers and questions: nothing, a task, a table that is
 -- malformed, or the command's form
 abbrev pub asked_by : Option Verb → List ℕ → Result (Option Task) Expected
 asked_by None rest = Ok None
 asked_by (Some v) rest = formed v rest (task_form v rest)
 
--- what a line without white space at its ends asks of tables and layers
+-- what a line without white space at its ends asks of tables, layers and questions
 abbrev pub task_asked : List ℕ → Result (Option Task) Expected
 task_asked text = asked_by (verb_of (word text)) (after_word text)

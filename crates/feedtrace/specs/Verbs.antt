@@ -1,4 +1,4 @@
--- What the first word of a line says of tables and layers. Assumes nothing.
+-- What the first word of a line says of tables, layers and questions. Assumes nothing.
 use Rattle.std.specs.Prelude.{ℕ, cond, List, Some, None, codes, Option}
 use Rattle.std.specs.Str.{bytes_eq}
 use Rattle.feedtrace.specs.declared.verb.Verb.{Verb}
@@ -17,7 +17,7 @@ question_verb w =
     (cond (bytes_eq w (codes "trace")) (Some Trace)
     (cond (bytes_eq w (codes "filter")) (Some Filter) None)))))
 
--- what the word w says of tables and layers
+-- what the word w says of tables, layers and questions
 abbrev pub verb_of : List ℕ → Option Verb
 verb_of w =
     cond (bytes_eq w (codes "row-store")) (Some RowStore)

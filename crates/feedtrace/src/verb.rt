@@ -1,4 +1,4 @@
-//! What the first word of a line says of tables and layers.
+//! What the first word of a line says of tables, layers and questions.
 ghost use Rattle.std.specs.Prelude.{◌≡◌, Some};
 ghost use Rattle.feedtrace.specs.Commands.{form_text};
 ghost use Rattle.feedtrace.specs.Verbs.{verb_of};
@@ -6,7 +6,8 @@ ghost use Rattle.feedtrace.specs.Verbs.{verb_of};
 use std::fmt;
 use std::fmt::{Formatter, Write};
 
-/// What the first word of a line says of tables and layers. It shows as the command with what follows it.
+/// What the first word of a line says of tables, layers and questions. It shows as the command with what
+/// follows it.
 #[derive(Clone, Copy)]
 pub enum Verb {
     /// The word `row-store`.
@@ -38,7 +39,7 @@ pub enum Verb {
 }
 
 impl Verb {
-    /// What the word says; none where it says nothing of tables and layers.
+    /// What the word says; none where it says nothing of tables, layers and questions.
     pub(crate) fn of(word: &[u8]) -> Option<Verb>
         ensures { result ≡ verb_of word.now }
     {

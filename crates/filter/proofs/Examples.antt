@@ -46,5 +46,8 @@ examples_hold = record {
   error_or_error = refl;
   one_node_or_itself = refl;
   last_node_counts = refl;
+  error_not_passed = refl;
+  false_not_passed = refl;
+  true_passed = refl;
   no_nodes = refl;
 }

@@ -1,17 +1,17 @@
 -- The comparisons of a filter's nodes, read off a catalogue before the filter is evaluated. Assumes nothing.
 --     comparison entries r n    how what the node n compares compares; an error where n compares nothing
 --     Agree n ts us             the truths ts and us with numbers below n are the same
-use Rattle.std.specs.Prelude.{◌≡◌, ℕ, ◌<◌, cond, not, ◌&&◌, List, Some, None, Option, ◌==◌}
+use Rattle.std.specs.Prelude.{◌≡◌, ℕ, ◌<◌, cond, not, ◌&&◌, List, [], Some, None, Option, ◌==◌}
 use Rattle.catalogue.specs.Entries.{Entry}
 use Rattle.query.specs.declared.node.Node as node
 use Rattle.query.specs.declared.node.Node.TheVariants.{Equal, Less, Bound, Not, And, Or}
 use Rattle.filter.specs.declared.term.Term.{Term}
 use Rattle.filter.specs.declared.truth.Truth.{Truth}
 use Rattle.filter.specs.declared.truth.Truth.TheVariants.{Error}
-use Rattle.filter.specs.Rows.{Row, none, number_at}
-use Rattle.filter.specs.Comparing.{Known, equal, less}
+use Rattle.filter.specs.Rows.{Row, none}
+use Rattle.filter.specs.Comparing.{Known}
 use Rattle.filter.specs.Terms.{known_of}
-use Rattle.filter.specs.Filters.{known, compared, truth_at}
+use Rattle.filter.specs.Filters.{known, truth_at, node_truth}
 
 -- both terms as they are held
 abbrev pub both_known : Term × Term → Known × Known
@@ -22,10 +22,11 @@ abbrev pub both_at : (ℕ → Entry) → ℕ → ℕ → Option (Known × Known)
 both_at entries a b =
     cond (not (a == none) && not (b == none)) (Some (known entries a, known entries b)) None
 
--- how what the node compares compares; an error where it compares nothing
+-- the truth of the node, if it compares two places and so names no other node; an error if it compares
+-- nothing
 abbrev pub comparison : (ℕ → Entry) → Row → node.Node → Truth
-comparison entries r (Equal a b) = compared equal entries (number_at r a) (number_at r b)
-comparison entries r (Less a b) = compared less entries (number_at r a) (number_at r b)
+comparison entries r (Equal a b) = node_truth entries r [] (Equal a b)
+comparison entries r (Less a b) = node_truth entries r [] (Less a b)
 comparison entries r (Bound v) = Error
 comparison entries r (Not a) = Error
 comparison entries r (And a b) = Error

@@ -1,5 +1,5 @@
 -- Worked examples of filters: each rule once, over a small catalogue. Assumes nothing.
-use Rattle.std.specs.Prelude.{◌≡◌, ℕ, ℤ, pos, negsuc, List, [], ◌∷◌, slice_index_or}
+use Rattle.std.specs.Prelude.{◌≡◌, ℕ, true, false, ℤ, pos, negsuc, List, [], ◌∷◌, slice_index_or}
 use Rattle.catalogue.specs.declared.kind.Kind.TheVariants.{Text, Integer}
 use Rattle.catalogue.specs.Entries.{Entry, unlisted}
 use Rattle.query.specs.declared.node.Node as node
@@ -8,7 +8,7 @@ use Rattle.query.specs.declared.place.Place.TheVariants.{Variable, Term}
 use Rattle.filter.specs.declared.truth.Truth.{Truth}
 use Rattle.filter.specs.declared.truth.Truth.TheVariants.{False, True, Error}
 use Rattle.filter.specs.Rows.{Row}
-use Rattle.filter.specs.Filters.{filter_truth}
+use Rattle.filter.specs.Filters.{filter_truth, passes}
 
 -- an integer of the value
 abbrev pub integer : ℤ → Entry
@@ -46,7 +46,7 @@ erring = Less (Variable 1) (Term 5)
 
 -- the rules, each by an example
 pub record FilterExamples : Type 0 where
-  -- equal and less are errors if a variable in them has no value
+  -- a comparison with a variable that has no value is an error
   pub equal_without_value : truth_there (Equal (Variable 2) (Term 1) ∷ []) ≡ Error
   pub equal_without_values : truth_there (Equal (Variable 2) (Variable 2) ∷ []) ≡ Error
   pub less_without_value : truth_there (Less (Term 3) (Variable 2) ∷ []) ≡ Error
@@ -96,6 +96,10 @@ pub record FilterExamples : Type 0 where
   pub error_or_false : truth_there (erring ∷ failing ∷ Or 0 1 ∷ []) ≡ Error
   pub error_or_error : truth_there (erring ∷ erring ∷ Or 0 1 ∷ []) ≡ Error
   pub one_node_or_itself : truth_there (holding ∷ Or 0 0 ∷ []) ≡ True
+  -- an error does not pass, as false does not
+  pub error_not_passed : passes small_catalogue (erring ∷ []) example_row ≡ false
+  pub false_not_passed : passes small_catalogue (failing ∷ []) example_row ≡ false
+  pub true_passed : passes small_catalogue (holding ∷ []) example_row ≡ true
   -- the last node gives the truth, and without nodes it is true
   pub last_node_counts : truth_there (erring ∷ failing ∷ holding ∷ []) ≡ True
   pub no_nodes : truth_there [] ≡ True

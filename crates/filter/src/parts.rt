@@ -34,8 +34,8 @@ pub fn group_truth<C: Catalogue>(
 }
 
 /// The truth of the filter of block number `block` of alternative number `alternative`, both counted from 0,
-/// on the row; none where the query has no such alternative, or that one no such block. It is the truth of the
-/// last node, and true without nodes. The row has a value for each variable, and 0 where it has none. The
+/// on the row; none where the query has no such alternative, or that one no such block. It is the truth of
+/// the last node, and true without nodes. The row has a value for each variable, and 0 where it has none. The
 /// catalogue says and keeps what it did.
 pub fn block_truth<C: Catalogue>(
     query: &Query,
