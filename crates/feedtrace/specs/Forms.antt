@@ -114,8 +114,8 @@ abbrev pub formed : Verb → List ℕ → Option Task → Result (Option Task) E
 formed v rest None = cond (begins_table v rest) (Ok (Some (task.MalformedTable v))) (Err (expected.Form v))
 formed v rest (Some c) = Ok (Some c)
 
--- what a first word with what follows it asks of tables, layers and questions: nothing, a task, a table that is
--- malformed, or the command's form
+-- what a first word with what follows it asks of tables, layers and questions: nothing, a task, a table that
+-- is malformed, or the command's form
 abbrev pub asked_by : Option Verb → List ℕ → Result (Option Task) Expected
 asked_by None rest = Ok None
 asked_by (Some v) rest = formed v rest (task_form v rest)

@@ -34,8 +34,8 @@ pub record Passed (line : List ℕ) (s : Session) (r : Told) (t : Session) : Typ
   pub book : t.book ≡ s.book
   pub loading : t.loading ≡ s.loading
 
--- the answer to a line that asks this of tables, layers and questions, and the session behind it: the task is carried
--- out, or the line is one about queries, or it has another form than its task's
+-- the answer to a line that asks this of tables, layers and questions, and the session behind it: the task
+-- is carried out, or the line is one about queries, or it has another form than its task's
 abbrev pub Handled : List ℕ → Result (Option tasks.Task) Expected → Session → Told → Session → Type 0
 Handled line (Ok None) s r t = Passed line s r t
 Handled line (Ok (Some c)) s r t = (x : Done) × ((r ≡ said x) × Does c s x t)
