@@ -74,7 +74,7 @@ pub record FilterExamples : Type 0 where
   pub not_true : truth_there (holding ∷ Not 0 ∷ []) ≡ False
   pub not_false : truth_there (failing ∷ Not 0 ∷ []) ≡ True
   pub not_error : truth_there (erring ∷ Not 0 ∷ []) ≡ Error
-  -- and is false if either is, else an error if either is, else true
+  -- one false makes and false, else one error makes it an error
   pub true_and_true : truth_there (holding ∷ holding ∷ And 0 1 ∷ []) ≡ True
   pub true_and_false : truth_there (holding ∷ failing ∷ And 0 1 ∷ []) ≡ False
   pub true_and_error : truth_there (holding ∷ erring ∷ And 0 1 ∷ []) ≡ Error
@@ -85,7 +85,7 @@ pub record FilterExamples : Type 0 where
   pub error_and_false : truth_there (erring ∷ failing ∷ And 0 1 ∷ []) ≡ False
   pub error_and_error : truth_there (erring ∷ erring ∷ And 0 1 ∷ []) ≡ Error
   pub one_node_and_itself : truth_there (holding ∷ And 0 0 ∷ []) ≡ True
-  -- or is true if either is, else an error if either is, else false
+  -- one true makes or true, else one error makes it an error
   pub true_or_true : truth_there (holding ∷ holding ∷ Or 0 1 ∷ []) ≡ True
   pub true_or_false : truth_there (holding ∷ failing ∷ Or 0 1 ∷ []) ≡ True
   pub true_or_error : truth_there (holding ∷ erring ∷ Or 0 1 ∷ []) ≡ True

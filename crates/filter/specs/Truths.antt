@@ -25,7 +25,7 @@ negated True = False
 negated False = True
 negated Error = Error
 
--- false if either is false; else an error if either is; else true
+-- and: one false makes it false; without one, an error makes it an error
 abbrev pub conjunction : Truth → Truth → Truth
 conjunction False False = False
 conjunction False True = False
@@ -37,7 +37,7 @@ conjunction Error False = False
 conjunction Error True = Error
 conjunction Error Error = Error
 
--- true if either is true; else an error if either is; else false
+-- or: one true makes it true; without one, an error makes it an error
 abbrev pub disjunction : Truth → Truth → Truth
 disjunction True True = True
 disjunction True False = True

@@ -26,7 +26,7 @@ impl Truth {
         }
     }
 
-    /// False if either is false, else an error if either is, else true.
+    /// And: one false makes it false; without one, an error makes it an error.
     pub(crate) fn and(self, other: Truth) -> Truth
         ensures { result ≡ conjunction self other }
     {
@@ -37,7 +37,7 @@ impl Truth {
         }
     }
 
-    /// True if either is true, else an error if either is, else false.
+    /// Or: one true makes it true; without one, an error makes it an error.
     pub(crate) fn or(self, other: Truth) -> Truth
         ensures { result ≡ disjunction self other }
     {
