@@ -43,13 +43,15 @@ module _ (m : Meaning) (e : ℕ → Entry) (sound : Sound m) where
       (subst (λ n. 0 < n) (once.each a low) some) in
       record {
         numbered = omega (arith, few);
-        long = answered.long;
-        small = λ v. omega (
-          arith,
-          sound.small,
-          answered-small (get_or q a.alternative no_group) a.row answered v
-              (first_part (get_or q a.alternative no_group) v) refl,
-        );
+        row = record {
+          long = answered.long;
+          small = λ v. omega (
+            arith,
+            sound.small,
+            answered-small (get_or q a.alternative no_group) a.row answered v
+                (first_part (get_or q a.alternative no_group) v) refl,
+          );
+        };
       })
       (λ high. absurd (omega (arith, once.beyond a high)))
       (cases_lt a.alternative (length q))

@@ -12,7 +12,7 @@ use Rattle.query.specs.Lawful.{total}
 use Rattle.triples.specs.Meaning.{Meaning}
 use Rattle.filter.specs.Rows.{Row, value}
 use Rattle.filter.specs.Filters.{passes}
-use Rattle.algebra.specs.Patterns.{blank, stored, completions}
+use Rattle.algebra.specs.Patterns.{blank, Valid, stored, completions}
 use Rattle.algebra.specs.Algebra.{bgp, compatible, merge, join, diff, left_join}
 use Rattle.algebra.specs.Answers.{left_joins, solutions, Answer, numbered, answers_from, answers_to}
 use Rattle.algebra.specs.Answers.{same_answer, times_answered}
@@ -26,7 +26,7 @@ use Rattle.algebra.proofs.Completions.{kept_from_completes, all-completions}
 use Rattle.algebra.proofs.Listing.{fitting, or_itself, extended, rows_of, answers_of_from, answers_of}
 use Rattle.algebra.proofs.Fitting.{completes_from_stored}
 use Rattle.algebra.proofs.Cardinalities.{total-alike, list_all-alike}
-use Rattle.algebra.proofs.Joins.{Valid, merges, as_often-merges, stored_from_merges}
+use Rattle.algebra.proofs.Joins.{merges, as_often-merges, stored_from_merges}
 
 -- Valid
 

@@ -1,7 +1,6 @@
 -- The join of a row with a basic graph pattern: its merges are the completions of the row that are in the
 -- store, each as often. Each is there once, so that it is enough that the two have the same members. Assumes
 -- nothing.
---     Valid top r       r has sixteen values, each none or a term from 1 to top
 --     merges m ts r     the merges of r with the compatible solutions of ts
 use Rattle.std.proofs.Common.{◌≡◌, ℕ, ◌≤◌, true, false, List, map, length, sym, ap, ◌∙◌, arith, ⊎_elim, subst}
 use Rattle.std.proofs.Common.{inl, inr}
@@ -12,7 +11,7 @@ use Rattle.query.specs.Lawful.{mentions}
 use Rattle.query.specs.Limits.{variables}
 use Rattle.triples.specs.Meaning.{Meaning, Term}
 use Rattle.filter.specs.Rows.{Row, none, value}
-use Rattle.algebra.specs.Patterns.{blank, stored, open_variables, completions}
+use Rattle.algebra.specs.Patterns.{blank, Valid, stored, open_variables, completions}
 use Rattle.algebra.specs.Algebra.{bgp, compatible, either, merge}
 use Rattle.algebra.specs.Answers.{same_row, times}
 use Rattle.algebra.specs.Admissions.{Completes}
@@ -29,11 +28,6 @@ use Rattle.algebra.proofs.Fitting.{ascending-stored, completes_from_stored, memb
 use Rattle.algebra.proofs.Merging.{agree-none, agree-with_none, agree-same, either-bound, either-none}
 use Rattle.algebra.proofs.Merging.{either-second, agree_from_compatible, compatible_from_values, value-merge}
 use Rattle.algebra.proofs.Merging.{length-merge}
-
--- the row has sixteen values, each none or a term from 1 to the top
-pub record Valid (top : ℕ) (r : Row) : Type 0 where
-  pub long : length r ≡ variables
-  pub small : (v : ℕ) → value r v ≤ top
 
 -- the merges of the row with the solutions of the patterns that are compatible with it
 abbrev pub merges : Meaning → List TriplePattern → Row → List Row

@@ -89,7 +89,7 @@ unpacked-packed a h =
     ap unpacked (sym (append-nil (packed a)))
     ∙ ap whole (both_back number (λ _. read_row) (λ k r. record { alternative = k; row = r }) encode
     (λ k. k ≤ largest) number_codec a.alternative a.row (code_row a.row) 0 [] h.numbered
-    (row-back a.row h.long h.small (0 + length (encode a.alternative)) []))
+    (row-back a.row h.row.long h.row.small (0 + length (encode a.alternative)) []))
 
 -- no two answers have the same bytes
 pub packed-apart : (a b : Answer) → Bounded largest largest a → Bounded largest largest b
@@ -141,5 +141,5 @@ length-packed a h =
       length-append (encode (mask a.row)) (code a.row all_variables),
       length-encode_few a.alternative 0 (omega (arith, h.numbered)),
       length-encode_few (mask a.row) 2 (omega (arith, mask-small a.row)),
-      length-code a.row h.small all_variables,
+      length-code a.row h.row.small all_variables,
     )

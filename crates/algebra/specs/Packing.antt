@@ -3,15 +3,15 @@
 --     unpacked bytes        the answer that the bytes say, number by number as the number format reads them
 --     Bounded high top a    the answer has sixteen values, and its numbers are so small
 --     most_packed           the most bytes that an answer of a query takes
-use Rattle.std.specs.Prelude.{◌≡◌, ℕ, ◌+◌, ◌-◌, ◌*◌, ◌/◌, ◌%◌, ◌^◌, ◌≤◌, Bool, cond, List, [], ◌∷◌, ◌++◌}
-use Rattle.std.specs.Prelude.{length, map, ◌==◌, Some, None, Option}
+use Rattle.std.specs.Prelude.{ℕ, ◌+◌, ◌-◌, ◌*◌, ◌/◌, ◌%◌, ◌^◌, ◌≤◌, Bool, cond, List, [], ◌∷◌, ◌++◌}
+use Rattle.std.specs.Prelude.{map, ◌==◌, Some, None, Option}
 use Rattle.std.specs.List.{filter, flat_map}
 use Rattle.varint.specs.Encode.{encode}
 use Rattle.query.specs.Lawful.{total}
 use Rattle.query.specs.Limits.{variables, most_alternatives}
 use Rattle.query.specs.Readers.{Read, took, refused, Reader, number, both}
 use Rattle.filter.specs.Rows.{Row, none, value, has_value}
-use Rattle.algebra.specs.Patterns.{all_variables}
+use Rattle.algebra.specs.Patterns.{Valid, all_variables}
 use Rattle.algebra.specs.Answers.{Answer}
 
 -- the number in which bit v, worth 2 to the power v, is set exactly if variable v has a value
@@ -55,11 +55,10 @@ whole (refused _ _) = None
 abbrev pub unpacked : List ℕ → Option Answer
 unpacked bytes = whole (read_answer 0 bytes)
 
--- the number of the alternative is at most high, and the row has sixteen values, each of them at most top
+-- the number of the alternative is at most high, and the row's values are at most top
 pub record Bounded (high top : ℕ) (a : Answer) : Type 0 where
   pub numbered : a.alternative ≤ high
-  pub long : length a.row ≡ variables
-  pub small : (v : ℕ) → value a.row v ≤ top
+  pub row : Valid top a.row
 
 -- the highest number of an alternative of a query
 abbrev pub highest_alternative : ℕ

@@ -1,9 +1,10 @@
 -- Triple patterns under a row. Assumes nothing.
+--     Valid top r             r has sixteen values, each at most top
 --     stored m ts r           the triples of ts under r are all in the store
 --     Stored m ts r           the same, triple by triple
 --     open_variables ts r     the variables of ts that have no value in r, ascending
 --     completions top ts r    every row that gives them values from 1 to top, and keeps the rest of r
-use Rattle.std.specs.Prelude.{◌≡◌, ℕ, Bool, true, not, ◌&&◌, List, [], ◌∷◌, replicate}
+use Rattle.std.specs.Prelude.{◌≡◌, ℕ, ◌≤◌, length, Bool, true, not, ◌&&◌, List, [], ◌∷◌, replicate}
 use Rattle.std.specs.Prelude.{slice_set}
 use Rattle.std.specs.List.{filter, flat_map, list_all, range_with_len, AllByRecursion}
 use Rattle.query.specs.declared.pattern.TriplePattern.{TriplePattern}
@@ -11,11 +12,16 @@ use Rattle.query.specs.Lawful.{mentions}
 use Rattle.query.specs.Limits.{variables}
 use Rattle.triples.specs.declared.triple.Triple.{Triple}
 use Rattle.triples.specs.Meaning.{Meaning, first_term}
-use Rattle.filter.specs.Rows.{Row, none, has_value, number_at}
+use Rattle.filter.specs.Rows.{Row, none, value, has_value, number_at}
 
 -- no variable has a value
 abbrev pub blank : Row
 blank = replicate variables none
+
+-- the row has sixteen values, each of them at most top; where it has none, the value is 0
+pub record Valid (top : ℕ) (r : Row) : Type 0 where
+  pub long : length r ≡ variables
+  pub small : (v : ℕ) → value r v ≤ top
 
 -- the row with x as the value of variable v; a variable over 15 leaves it as it is
 abbrev pub with_value : Row → ℕ → ℕ → Row
