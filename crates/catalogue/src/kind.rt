@@ -16,6 +16,9 @@ pub enum Kind {
     Integer = 3,
 }
 
+/// The kinds, by their numbers.
+const KINDS: [Kind; 3] = [Kind::Name, Kind::Text, Kind::Integer];
+
 // Kept as methods: both are public and stay so, and `From` and `TryFrom` would say the same twice.
 impl Kind {
     /// The published number of the kind.
@@ -30,9 +33,7 @@ impl Kind {
         ensures answer { result ≡ kind_from number }
         ensures exact { Numbered number result }
     {
-        [Kind::Name, Kind::Text, Kind::Integer]
-            .into_iter()
-            .find(|kind| kind.number() == number)
+        KINDS.iter().copied().find(|kind| kind.number() == number)
     }
 }
 

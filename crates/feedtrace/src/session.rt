@@ -55,7 +55,7 @@ impl Session {
         }
         match Task::parse(text)? {
             Some(task) => Ok(self.carry_out(heap, task)?.map(Answer::Task)),
-            None => Ok(self.queries.answer(heap, line)?.map(Answer::Query)),
+            None => Ok(self.queries.answer(heap, text)?.map(Answer::Query)),
         }
     }
 }

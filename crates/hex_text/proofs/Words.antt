@@ -13,6 +13,19 @@ use Rattle.hex_text.proofs.Digits.{byte_value-none}
 abbrev pub spelled : List (List ℕ) → Option (List ℕ)
 spelled parts = cond (list_all is_word parts) (Some (filter_map word_value parts)) None
 
+none_from_not_some : {A : Type 0} (o : Option A) → is_some o ≡ false → o ≡ None
+none_from_not_some None h = refl
+none_from_not_some (Some a) h = cc
+
+spelled_some : (parts : List (List ℕ)) → is_some (spelled parts) ≡ true
+    → spelled parts ≡ Some (filter_map word_value parts)
+spelled_some parts =
+    elim (list_all is_word parts) as (λ b. is_some (cond b (Some (filter_map word_value parts)) None) ≡ true
+    → cond b (Some (filter_map word_value parts)) None ≡ Some (filter_map word_value parts)) [
+      | true ↦ λ h. refl
+      | false ↦ λ h. cc
+    ]
+
 -- one word
 
 led_cond : (b : ℕ) (fits : Bool) (bs : List ℕ)
@@ -83,3 +96,13 @@ read_words (c ∷ d ∷ rest) =
     elim (eqb c space) as (λ b. cond b (read_text (d ∷ rest)) (led_by (front (c ∷ d ∷ rest)) (read_text rest))
     ≡ spelled (cond b ([] ∷ words (d ∷ rest)) (onto_first c (words (d ∷ rest)))))
     [ true ↦ read_words (d ∷ rest) | false ↦ one_word c d rest (read_words rest) ]
+
+-- the outcome, by whether there is one
+
+pub none_read : (text : List ℕ) → is_some (read_text text) ≡ false → read_text text ≡ None
+none_read text h = none_from_not_some (read_text text) h
+
+pub some_read : (text : List ℕ) → is_some (read_text text) ≡ true
+    → read_text text ≡ Some (filter_map word_value (words text))
+some_read text h =
+    read_words text ∙ spelled_some (words text) (ap is_some (sym (read_words text)) ∙ h)

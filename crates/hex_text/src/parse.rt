@@ -1,15 +1,17 @@
 //! Reading bytes from their text.
-ghost use Rattle.std.specs.Prelude.{◌≡◌, filter_map, IfOk};
-ghost use Rattle.std.specs.List.{list_all};
+ghost use Rattle.std.specs.Prelude.{◌≡◌, ◌==◌, length, filter_map, is_some, IfOk, MatchOption};
 ghost use Rattle.hex_text.specs.Calls.{Parsed};
-ghost use Rattle.hex_text.specs.Reading.{read_text};
-ghost use Rattle.hex_text.specs.Words.{is_word, word_value, words};
+ghost use Rattle.hex_text.specs.Reading.{parted, read_text, GoesOn};
+ghost use Rattle.hex_text.specs.Words.{word_value, words};
 ghost use Rattle.hex_text.specs.declared.parse.ParseError.TheVariants.{Memory};
 
 use std::alloc::{AllocError, Global};
 
 /// What stands between two bytes.
 const SPACE: u8 = b' ';
+
+/// How many digits a byte has.
+const DIGITS: usize = 2;
 
 /// How many values a digit has.
 const BASE: u32 = 16;
@@ -42,12 +44,37 @@ pub fn parse(heap: Global, text: &[u8]) -> Result<Vec<u8>, ParseError>
     Ok(bytes_of(heap, text)?)
 }
 
-/// Whether each word of the text is a byte. Two spaces in a row have an empty word between.
+// Kept as a walk of its own: `split` looks for a word's end, however far it is, before the word is judged.
+/// Whether the text stands for bytes. Nothing behind the first thing that is neither a space nor a byte is
+/// looked at.
 fn is_hex(text: &[u8]) -> bool
-    ensures { result ≡ list_all is_word (words text.now) }
+    ensures { result ≡ is_some (read_text text.now) }
 {
-    text.split(|c| *c == SPACE)
-        .all(|word| word.is_empty() || byte_of(word).is_some())
+    let mut rest = text;
+    while let Some(after) = behind_first(rest) {
+        rest = after;
+    }
+    rest.is_empty()
+}
+
+/// What stands behind the space or the byte that the text begins with; none where it begins with neither.
+fn behind_first(text: &[u8]) -> Option<&[u8]>
+    ensures { MatchOption result (is_some (read_text text.now) ≡ (length text.now == 0))
+        (λ after. GoesOn text.now after.now) }
+{
+    let (first, after) = text.split_first()?;
+    if *first == SPACE {
+        return Some(after);
+    }
+    let (word, rest) = text.split_at_checked(DIGITS)?;
+    (byte_of(word).is_some() && is_parted(rest)).then_some(rest)
+}
+
+/// Whether the text may stand behind a byte: it is empty, or begins with a space.
+fn is_parted(text: &[u8]) -> bool
+    ensures { result ≡ parted text.now }
+{
+    text.first().is_none_or(|c| *c == SPACE)
 }
 
 /// The bytes that words of the text make.

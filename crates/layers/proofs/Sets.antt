@@ -1,7 +1,7 @@
 -- Laws of lists in which no triple stands twice. Assumes nothing.
-use Rattle.std.proofs.Common.{◌≡◌, ℕ, ◌+◌, ◌<◌, Bool, true, false, cond, not, ◌&&◌, ◌||◌, leb}
+use Rattle.std.proofs.Common.{◌≡◌, ℕ, ◌+◌, ◌<◌, ◌≤◌, Bool, true, false, cond, not, ◌&&◌, ◌||◌, leb, ltb}
 use Rattle.std.proofs.Common.{List, [], ◌∷◌, ◌++◌, length, get_or, is_some, Some, Option, sym, refl, ap}
-use Rattle.std.proofs.Common.{◌∙◌, subst, arith}
+use Rattle.std.proofs.Common.{◌∙◌, subst, arith, length-append}
 use Rattle.std.proofs.lemmas.Iterator.Adapters.{position_from-zero}
 use Rattle.std.proofs.lemmas.List.Quantifiers.{position-Some}
 use Rattle.std.proofs.lemmas.List.Sums.{sum_by-cons, sum_by-swap_remove, sum_by_push}
@@ -12,7 +12,7 @@ use Rattle.triples.specs.Meaning.{among}
 use Rattle.triples.specs.Laws.{among-append}
 use Rattle.triples.specs.Order.{same}
 use Rattle.triples.proofs.Order.{same_is}
-use Rattle.layers.specs.Sets.{occurrences, Once, Removed}
+use Rattle.layers.specs.Sets.{most_withdrawn, occurrences, Once, Removed}
 
 pub among_push : (xs : List Triple) (y t : Triple) → among (xs ++ y ∷ []) t ≡ (among xs t || same y t)
 among_push xs y t = grind (arith, nat_tests, among-append xs (y ∷ []) t)
@@ -73,6 +73,11 @@ pub once_added : (b : Bool) (xs ys : List Triple) (t : Triple) → Once xs → a
     → ys ≡ cond b (xs ++ t ∷ []) xs → Once ys
 once_added true xs ys t o h e = subst Once (sym e) (once_push xs t o h)
 once_added false xs ys t o h e = subst Once (sym e) o
+
+pub few_added : (b : Bool) (xs ys : List Triple) (t : Triple) → length xs ≤ most_withdrawn
+    → b ≡ ltb (length xs) most_withdrawn → ys ≡ cond b (xs ++ t ∷ []) xs → length ys ≤ most_withdrawn
+few_added true xs ys t h room e = rw e (grind (arith, nat_tests, length-append xs (t ∷ []), room))
+few_added false xs ys t h room e = rw e h
 
 -- what is left where the triple at its place is removed, and the last one moved there
 module _ (xs ys : List Triple) (i : ℕ) (t x : Triple) (once : Once xs)

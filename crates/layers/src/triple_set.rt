@@ -1,5 +1,6 @@
 //! A small set of triples, in place.
-ghost use Rattle.layers.specs.Sets.{Once};
+ghost use Rattle.std.specs.Prelude.{◌≤◌, length};
+ghost use Rattle.layers.specs.Sets.{most_withdrawn, Once};
 
 use arrayvec::ArrayVec;
 use triples::triple::Triple;
@@ -11,5 +12,6 @@ pub const MOST_WITHDRAWN: usize = 256;
 #[derive(Drop)]
 pub(crate) struct TripleSet {
     pub(crate) triples: ArrayVec<Triple, MOST_WITHDRAWN>,
+    ghost few: { length triples.items ≤ most_withdrawn },
     ghost once: { Once triples.items },
 }

@@ -7,6 +7,7 @@ use crate::triple_set::TripleSet;
 use crate::withdrawn::Withdrawn;
 use refusal::refusal::Refusal;
 use refusal::rejection::Rejection;
+use triples::selector::ANY;
 use triples::store::Store;
 use triples::triple::Triple;
 
@@ -17,6 +18,10 @@ fn is_held<S: Store>(store: &mut S, triple: Triple) -> bool
     ensures same { S.Store.meaning store.new ≡ S.Store.meaning store.old }
     ensures kept { S.Store.kept store.new ≡ S.Store.kept store.old }
 {
+    // No store holds a 0, which a selector would take for any number, and the seek would go over many.
+    if triple.subject == ANY || triple.property == ANY || triple.object == ANY {
+        return false;
+    }
     store.seek(triple.into(), triple) == Some(triple)
 }
 

@@ -1,9 +1,10 @@
 -- Laws of the tests over lists that make a query lawful. Assumes nothing.
-use Rattle.std.proofs.Common.{◌≡◌, ℕ, ◌+◌, ◌*◌, ◌<◌, ◌≤◌, Bool, true, false, not, ◌&&◌, ◌||◌, List}
-use Rattle.std.proofs.Common.{[], ◌∷◌, ◌++◌, length, Decides, refl, ap, ◌∙◌}
+use Rattle.std.proofs.Common.{◌≡◌, ℕ, zero, suc, ◌+◌, ◌*◌, ◌<◌, ◌≤◌, Bool, true, false, not, ◌&&◌, ◌||◌, List}
+use Rattle.std.proofs.Common.{[], ◌∷◌, ◌++◌, length, get_or, Decides, sym, refl, ap, ◌∙◌, ⊎_elim}
 use Rattle.std.proofs.Common.{mul-suc, arith}
-use Rattle.std.proofs.lemmas.List.Folds.{list_any-append}
-use Rattle.std.proofs.lemmas.Bool.{and_parts}
+use Rattle.std.proofs.lemmas.List.{get_or_read_under}
+use Rattle.std.proofs.lemmas.List.Folds.{list_any-append, list_any_at, Any-from_list_any}
+use Rattle.std.proofs.lemmas.Bool.{and_parts, and_from, or_cases, or_left, or_right}
 use Rattle.std.proofs.lemmas.Bool.Decides.{Decides-below_or}
 use Rattle.query.specs.Parts.{Group}
 use Rattle.std.specs.List.{list_all, list_any}
@@ -34,6 +35,74 @@ pub some_push : {A : Type 0} (p : A → Bool) (xs : List A) (x : A)
 some_push p xs x = list_any-append p xs (x ∷ []) ∙ ap (λ b. list_any p xs || b) (or_false (p x))
 
 -- in_two
+
+-- p holds of two elements
+pub record Two {A : Type 0} (p : A → Bool) (xs : List A) (d : A) : Type 0 where
+  pub first : ℕ
+  pub second : ℕ
+  pub ordered : first < second
+  pub inside : second < length xs
+  pub first_holds : p (get_or xs first d) ≡ true
+  pub second_holds : p (get_or xs second d) ≡ true
+
+-- where p holds of the elements i and j, and i stands before j, it holds of two elements
+in_two_from : {A : Type 0} (p : A → Bool) (xs : List A) (i j : ℕ) (d : A) → i < j → j < length xs
+    → p (get_or xs i d) ≡ true
+    → p (get_or xs j d) ≡ true → in_two p xs ≡ true
+in_two_from p [] i j d o l h k = absurd (omega arith)
+in_two_from p (x ∷ xs) zero zero d o l h k = absurd (omega arith)
+in_two_from p (x ∷ xs) zero (suc j) d o l h k =
+    or_left (p x && list_any p xs) (in_two p xs)
+    (and_from (p x) (list_any p xs) h (list_any_at p xs j d (omega arith) k))
+in_two_from p (x ∷ xs) (suc i) zero d o l h k = absurd (omega arith)
+in_two_from p (x ∷ xs) (suc i) (suc j) d o l h k =
+    or_right (p x && list_any p xs) (in_two p xs)
+    (in_two_from p xs i j d (omega arith) (omega arith) h k)
+
+-- p holds of the first element and of one behind it
+two_with_first : {A : Type 0} (p : A → Bool) (x : A) (xs : List A) (d : A) → p x ≡ true
+    → list_any p xs ≡ true → Two p (x ∷ xs) d
+two_with_first p x xs d h e =
+    let (j, y, l, is, t) = Any-from_list_any p xs e in
+    record {
+      first = 0;
+      second = suc j;
+      ordered = omega arith;
+      inside = omega arith;
+      first_holds = h;
+      second_holds = ap p (sym (get_or_read_under xs j (length xs) y d (sym is) l refl)) ∙ t;
+    }
+
+-- two elements behind the first are two elements
+two_behind_first : {A : Type 0} (p : A → Bool) (x : A) (xs : List A) (d : A) → Two p xs d
+    → Two p (x ∷ xs) d
+two_behind_first p x xs d t =
+    let o = t.ordered in
+    let i = t.inside in
+    record {
+      first = suc t.first;
+      second = suc t.second;
+      ordered = omega arith;
+      inside = omega arith;
+      first_holds = t.first_holds;
+      second_holds = t.second_holds;
+    }
+
+-- where it is said of two elements, they are there
+in_two_at : {A : Type 0} (p : A → Bool) (xs : List A) (d : A) → in_two p xs ≡ true → Two p xs d
+in_two_at p [] d h = let z : ◌≡◌ {A = ℕ} 0 1 = cc in absurd (omega arith)
+in_two_at p (x ∷ xs) d h =
+    ⊎_elim
+    (λ e. let w = and_parts (p x) (list_any p xs) e in two_with_first p x xs d w.0 w.1)
+    (λ e. two_behind_first p x xs d (in_two_at p xs d e))
+    (or_cases (p x && list_any p xs) (in_two p xs) h)
+
+-- it is said of two elements exactly where p holds of two at different places
+pub in_two_decides : {A : Type 0} (p : A → Bool) (xs : List A) (d : A) → Decides (in_two p xs) (Two p xs d)
+in_two_decides p xs d = (
+  in_two_at p xs d,
+  λ t. in_two_from p xs t.first t.second d t.ordered t.inside t.first_holds t.second_holds,
+)
 
 -- with one element more, two are among them where two were before, or one was and it is the other
 pub in_two_push : {A : Type 0} (p : A → Bool) (xs : List A) (x : A)

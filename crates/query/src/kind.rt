@@ -13,6 +13,16 @@ pub(crate) enum Kind {
     Or = 6,
 }
 
+/// The kinds, by their numbers.
+const KINDS: [Kind; 6] = [
+    Kind::Equal,
+    Kind::Less,
+    Kind::Bound,
+    Kind::Not,
+    Kind::And,
+    Kind::Or,
+];
+
 impl From<Kind> for u32 {
     ghost from_gives = { λ k n. n ≡ number_of k };
 
@@ -27,15 +37,9 @@ impl Kind {
     pub(crate) fn from_number(number: u32) -> Option<Kind>
         ensures { result ≡ kind_from number }
     {
-        [
-            Kind::Equal,
-            Kind::Less,
-            Kind::Bound,
-            Kind::Not,
-            Kind::And,
-            Kind::Or,
-        ]
-        .into_iter()
-        .find(|kind| u32::from(*kind) == number)
+        KINDS
+            .iter()
+            .copied()
+            .find(|kind| u32::from(*kind) == number)
     }
 }

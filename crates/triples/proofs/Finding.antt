@@ -7,7 +7,7 @@ use Rattle.std.specs.Prelude.{find, take_while}
 use Rattle.std.proofs.lemmas.List.{length-drop, get_or-drop}
 use Rattle.std.proofs.lemmas.List.Sums.{take_while-cons}
 use Rattle.std.specs.List.Sorted.{IsPartitionedBy, IsPartitionPoint}
-use Rattle.std.proofs.lemmas.Bool.{not-true, not-false, both_ways, cases_Bool, cases_eq}
+use Rattle.std.proofs.lemmas.Bool.{both_ways, cases_Bool, cases_eq}
 use Rattle.std.proofs.lemmas.Bool.{cases_lt, cond_both, cond-true, cond-false}
 use Rattle.triples.specs.declared.selector.Selector.{Selector}
 use Rattle.triples.specs.declared.triple.Triple.{Triple}
@@ -16,10 +16,10 @@ use Rattle.triples.specs.Selectors.{matches, floor, passed}
 use Rattle.triples.specs.Meaning.{among}
 use Rattle.triples.specs.Seeks.{Candidate, Sought}
 use Rattle.triples.specs.Tables.{Ordered}
-use Rattle.triples.specs.Finding.{Split, Passed, later}
+use Rattle.triples.specs.Finding.{Split, later}
 use Rattle.triples.proofs.FirstMatches.{Silent, Met, reachable}
 use Rattle.triples.proofs.Lists.{first_of}
-use Rattle.triples.proofs.Selectors.{floor_reached, passed_none, passed_upto, passed_floor}
+use Rattle.triples.proofs.Selectors.{floor_reached, passed_none, passed_upto}
 use Rattle.triples.proofs.Meaning.{Place, among_place, at_among}
 use Rattle.triples.proofs.Order.{before_itself, before_trans, upto_trans, upto_before}
 
@@ -73,28 +73,14 @@ module _ {X : Type 0} (triple : X → Triple) (xs : List X) (ordered : Ordered t
   partitioned_passed s i k d h n e =
       passed_upto s (triple (get_or xs i d)) (triple (get_or xs k d)) e (ordered_upto i k d h n)
 
--- the place up to which no element is passed
-pub passed_point : {X : Type 0} (triple : X → Triple) (xs : List X) (s : Selector) (i : ℕ) → i ≤ length xs
-    → IsPartitionPoint (λ x. not (passed s (triple x)) ≡ true) (λ x. not (passed s (triple x)) ≡ false) xs i
-    → Passed triple xs s i
-passed_point triple xs s i h p = record {
-  inside = h;
-  ahead = λ k d l. not-true _ (p.0 k d (omega arith) l);
-  behind = λ k d l m. not-false _ (p.1 k d l m);
-}
-
--- where the triples before the floor end, none is passed
-pub split_passed : {X : Type 0} (triple : X → Triple) (xs : List X) (s : Selector) (i j : ℕ)
-    → Split triple xs (floor s) i → Passed triple xs s j → i ≤ j
-split_passed triple xs s i j split p =
-    ⊎_elim
-    (λ low. let inside = split.inside in
-    let d = first_of xs j (omega (arith, low, inside)) in
-    absurd (both_ways (before (triple (get_or xs j d)) (floor s))
-    (passed_floor s (triple (get_or xs j d)) (p.behind j d (omega arith) (omega (arith, low, inside))))
-    (split.below j d low)))
-    (λ high. high)
-    (cases_lt j i)
+  -- where an element is passed, so is each one behind it
+  pub passed_behind : (s : Selector) (i k : ℕ) (d : X) → passed s (triple (get_or xs i d)) ≡ true → i ≤ k
+      → k < length xs → passed s (triple (get_or xs k d)) ≡ true
+  passed_behind s i k d e low high =
+      ⊎_elim (λ yes. yes)
+      (λ no. absurd (both_ways (not (passed s (triple (get_or xs i d)))) (ap not e)
+      (partitioned_passed s i k d low high (ap not no))))
+      (cases_Bool (passed s (triple (get_or xs k d))))
 
 -- the place up to which an element is before the start splits the list
 pub split_point : {X : Type 0} (triple : X → Triple) (xs : List X) (start : Triple) (i : ℕ) → i ≤ length xs

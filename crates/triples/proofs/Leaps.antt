@@ -1,10 +1,12 @@
 -- Laws of leaping over an ordered list. Assumes nothing.
 use Rattle.std.specs.List.{fold}
 use Rattle.triples.proofs.Selectors.{passed_none}
-use Rattle.std.proofs.Common.{◌≡◌, ℕ, ◌+◌, ◌-◌, ◌<◌, Bool, true, false, ◌||◌, leb, List, [], ◌∷◌}
+use Rattle.std.proofs.Common.{◌≡◌, ℕ, ◌+◌, ◌<◌, Bool, true, false, ◌||◌, leb, List, [], ◌∷◌}
 use Rattle.std.proofs.Common.{◌++◌, map}
 use Rattle.std.proofs.Common.{length, get_or, take, drop, Some, None, Option, sym, refl, ap, ◌∙◌, subst}
-use Rattle.std.proofs.Common.{⊎_elim, arith}
+use Rattle.std.proofs.Common.{◌≤◌, ap₂, ⊎_elim, arith}
+use Rattle.std.proofs.lemmas.List.Folds.{fold-map}
+use Rattle.std.proofs.lemmas.List.Sums.{fold_more}
 use mathlib.Core.Path.{fun_ext}
 use Rattle.std.proofs.lemmas.List.{append-nil, append_assoc, take-append-drop, map-append}
 use Rattle.std.proofs.lemmas.List.{get_or-take, get_or-drop, length-take, length-drop}
@@ -18,7 +20,7 @@ use Rattle.triples.specs.Selectors.{matches, floor, passed}
 use Rattle.triples.specs.Meaning.{among}
 use Rattle.triples.specs.Seeks.{Leapt}
 use Rattle.triples.specs.Unions.{union, lesser}
-use Rattle.triples.specs.Finding.{Split, Passed, offer_of}
+use Rattle.triples.specs.Finding.{Split, offer_of}
 use Rattle.triples.proofs.FirstMatches.{Silent}
 use Rattle.triples.proofs.Order.{before_itself, same_is, same_itself}
 use Rattle.triples.proofs.Selectors.{floor_reached}
@@ -149,18 +151,34 @@ module _ (p : Position) (s : Selector) (bound : ℕ) where
           (sym (map-append triple (take n xs) (drop n xs)) ∙ ap (map triple) (take-append-drop n xs))
           (leapt_append (map triple (take n xs)) (map triple (drop n xs)) None least (leapt_none n split) f)
 
-    -- the smallest number that the triples offer from the floor up to those that are passed
-    pub leapt_between : (xs : List X) (from to : ℕ) → Split triple xs (floor s) from → Passed triple xs s to
-        → Leapt (among (map triple xs)) p s bound
-        (fold better None (map triple (take (to - from) (drop from xs))))
-    leapt_between xs from to split end =
-        let least = fold better None (map triple (take (to - from) (drop from xs))) in
+    -- one triple more is gone over
+    pub better_more : (xs : List X) (i : ℕ) (x : X) → i < length xs → x ≡ get_or xs i x
+        → fold better None (map triple (take (i + 1) xs))
+        ≡ better (fold better None (map triple (take i xs))) (triple x)
+    better_more xs i x inside e =
+        fold-map better triple None (take (i + 1) xs)
+        ∙ fold_more (λ a y. better a (triple y)) None xs i x inside
+        ∙ ap₂ better (sym (fold-map better triple None (take i xs))) (ap triple (sym e))
+
+    -- the smallest number that n triples from the floor on offer, where those behind them are passed
+    pub leapt_until : (xs : List X) (from n : ℕ) → Split triple xs (floor s) from
+        → ((k : ℕ) (d : X) → from + n ≤ k → k < length xs → passed s (triple (get_or xs k d)) ≡ true)
+        → Leapt (among (map triple xs)) p s bound (fold better None (map triple (take n (drop from xs))))
+    leapt_until xs from n split end =
+        let least = fold better None (map triple (take n (drop from xs))) in
         leapt_begun xs from least split
-        (leapt_rest (drop from xs) (to - from) least
+        (leapt_rest (drop from xs) n least
         (λ k d low high. let len = length-drop from xs in
         let t = triple (get_or (drop from xs) k d) in
         passed_none s t t
         (subst (λ x. passed s (triple x) ≡ true) (sym (get_or-drop from xs k d))
-        (end.behind (from + k) d (omega (arith, low)) (omega (arith, high, len))))
+        (end (from + k) d (omega (arith, low)) (omega (arith, high, len))))
         (before_itself t))
-        (leapt_offers (map triple (take (to - from) (drop from xs)))))
+        (leapt_offers (map triple (take n (drop from xs)))))
+
+    -- what n triples from the floor on offer decides, where no triple stands behind them, or those are passed
+    pub leapt_gone : (xs ys : List X) (from n : ℕ) (least : Option ℕ) → Split triple xs (floor s) from
+        → ys ≡ drop from xs → least ≡ fold better None (map triple (take n ys))
+        → ((k : ℕ) (d : X) → from + n ≤ k → k < length xs → passed s (triple (get_or xs k d)) ≡ true)
+        → Leapt (among (map triple xs)) p s bound least
+    leapt_gone xs ys from n least split e is end = rw (is, e) (leapt_until xs from n split end)

@@ -5,7 +5,7 @@ use Rattle.triples.specs.declared.position.Position.{Position}
 use Rattle.triples.specs.declared.selector.Selector.{Selector}
 use Rattle.triples.specs.declared.triple.Triple.{Triple}
 use Rattle.triples.specs.Order.{before, number_from}
-use Rattle.triples.specs.Selectors.{matches, passed}
+use Rattle.triples.specs.Selectors.{matches}
 
 -- the one of the two triples that does not come before the other
 abbrev pub later : Triple → Triple → Triple
@@ -16,12 +16,6 @@ pub record Split {X : Type 0} (triple : X → Triple) (xs : List X) (start : Tri
   pub inside : i ≤ length xs
   pub below : (k : ℕ) (d : X) → k < i → before (triple (slice_index_or xs k d)) start ≡ true
   pub behind : (k : ℕ) (d : X) → i ≤ k → k < length xs → before (triple (slice_index_or xs k d)) start ≡ false
-
--- the elements from i on stand for triples that the selector has passed, and those before i do not
-pub record Passed {X : Type 0} (triple : X → Triple) (xs : List X) (s : Selector) (i : ℕ) : Type 0 where
-  pub inside : i ≤ length xs
-  pub ahead : (k : ℕ) (d : X) → k < i → passed s (triple (slice_index_or xs k d)) ≡ false
-  pub behind : (k : ℕ) (d : X) → i ≤ k → k < length xs → passed s (triple (slice_index_or xs k d)) ≡ true
 
 -- the number at the position of t, if t matches the selector and the number is not below the bound
 abbrev pub offer_of : Triple → Position → Selector → ℕ → Option ℕ

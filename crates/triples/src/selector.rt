@@ -71,7 +71,7 @@ impl Selector {
     /// The start from which one seek finds the least number at the position that is not below the bound, if
     /// such a number is there: where the entries before the position are known, or the position's own entry
     /// is. None elsewhere.
-    pub(crate) fn aim(self, position: Position, bound: u32) -> Option<Triple>
+    pub fn aim(self, position: Position, bound: u32) -> Option<Triple>
         ensures { result ≡ aim self position bound }
     {
         match position {

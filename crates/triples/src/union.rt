@@ -7,7 +7,7 @@ pub fn least_of<T: Ord + Copy>(one: Option<T>, other: Option<T>) -> Option<T>
     ensures { result ≡ least T.Ord.cmp one other }
 {
     match (one, other) {
-        (Some(t), Some(u)) => Some(t.min(u)),
+        (Some(t), Some(u)) => if u.cmp(&t).is_lt() { other } else { one },
         _ => one.or(other),
     }
 }

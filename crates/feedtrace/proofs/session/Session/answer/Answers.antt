@@ -1,11 +1,18 @@
--- The line asks the task that is carried out.
-use Rattle.std.proofs.Common.{rules, ◌≡◌, false, is_some, Ok, Some, None, Option, Result, sym, ap, ◌∙◌}
-use Rattle.std.proofs.Common.{MatchOption}
+-- The line asks the task that is carried out; or it is one about queries, as it is without white space at its
+-- ends.
+use Rattle.std.proofs.Common.{rules, ◌≡◌, ℕ, List, false, is_some, Ok, Some, None, Option, Result, sym, ap}
+use Rattle.std.proofs.Common.{◌∙◌, subst, MatchOption}
+use Rattle.console.specs.declared.answer.Answer as answers
+use Rattle.console.specs.declared.failure.Failure as failures
+use Rattle.console.specs.declared.session.Session as sessions
+use Rattle.console.specs.Requests.{Meets, asked_plainly}
+use Rattle.console.specs.Sessions as console
 use Rattle.feedtrace.specs.declared.expected.Expected.{Expected}
 use Rattle.feedtrace.specs.declared.task.Task.{Task}
 use Rattle.feedtrace.specs.Forms.{task_asked}
 use Rattle.feedtrace.specs.Lines.{TableLine}
 use Rattle.console.specs.Words.{trimmed}
+use Rattle.console.proofs.Words.{trimmed-trimmed}
 use Rattle.feedtrace.proofs.session.Session.answer.Goals as goal
 
 -- what was asked, if anything was
@@ -29,3 +36,18 @@ returns-in_ok-carry_out-in-Some c =
     (λ _. TableLine (trimmed line) c.args.self.now _ c.carry_out.new.self)
     c.if-is_some.ensures
     (rw asks (Ok outcome, (search rules, c.in_ok-carry_out-in-Some.ensures)))
+
+-- an answer to the line without the white space at its ends is one to the line
+Answered-from_trimmed : (line text : List ℕ) → text ≡ trimmed line → (s t : sessions.Session)
+    (r : Result (Option answers.Answer) failures.Failure) → console.Answered text s r t
+    → console.Answered line s r t
+Answered-from_trimmed line text is s t r (m, (meets, handled)) =
+    (m, (subst (λ l. Meets (asked_plainly l) m) (ap trimmed is ∙ trimmed-trimmed line) meets, handled))
+
+pub returns-in_err-answer-in-None : goal.returns-in_err-answer-in-None
+returns-in_err-answer-in-None c =
+    search (rules, Answered-from_trimmed c.args.line.now _ c.trim-text.ensures _ _ _ c.answer.ensures)
+
+pub returns-in_ok-answer-in-None : goal.returns-in_ok-answer-in-None
+returns-in_ok-answer-in-None c =
+    search (rules, Answered-from_trimmed c.args.line.now _ c.trim-text.ensures _ _ _ c.answer.ensures)

@@ -1,5 +1,5 @@
 -- With the last member moved to the place, the members are those but the triple.
-use Rattle.std.proofs.Common.{is_some, refl, sym, subst}
+use Rattle.std.proofs.Common.{arith, is_some, refl, sym, subst}
 use Rattle.layers.specs.Members.{members}
 use Rattle.layers.specs.Sets.{Removed}
 use Rattle.layers.proofs.Sets.{placed_among, once_left, removed_left}
@@ -13,6 +13,7 @@ returns-in_err-place c =
 
 pub invariant_of-self : goal.invariant_of-self
 invariant_of-self c = record {
+  few = omega (arith, c.args.self.now.few, c.swap_remove.ensures.len);
   once = once_left (members c.args.self.now) _ c.in_ok-place.place c.args.triple c.swap_remove.result
       c.args.self.now.once c.in_ok-place.ensures c.swap_remove.ensures.value c.swap_remove.ensures.items;
 }

@@ -1,40 +1,57 @@
-use Rattle.std.proofs.Common.{◌-◌, take, drop, None, sym, subst, rules}
-use Rattle.std.proofs.lemmas.Iterator.{YieldsList-from_slice, YieldsList-from_map}
-use Rattle.std.proofs.lemmas.Iterator.Consumers.{YieldsList-at, fold_from_yields_List}
-use Rattle.triples.specs.Seeks.{Leapt}
-use Rattle.triples.specs.Finding.{Split}
-use Rattle.triples.proofs.Finding.{split_passed}
-use Rattle.triples.proofs.Leaps.{better, leapt_between}
+-- The triples gone over decide: those before them are below the floor, those behind them are passed.
+use Rattle.std.proofs.Common.{◌≡◌, ◌+◌, get_or, sym, ap, ◌∙◌, subst, arith}
+use Rattle.std.proofs.Common.{length-drop}
+use Rattle.std.proofs.lemmas.List.{get_or-drop, get_or_default}
+use Rattle.triples.specs.Finding.{Split, offer_of}
+use Rattle.triples.specs.Selectors.{passed}
+use Rattle.triples.proofs.Lists.{taken_rest}
+use Rattle.triples.proofs.Finding.{passed_behind}
+use Rattle.triples.specs.Unions.{lesser}
+use Rattle.triples.proofs.Leaps.{better, better_more, leapt_gone}
+use Rattle.triples.proofs.Unions.{least_lesser}
 use Rattle.triples.proofs.run.Run.pass_over.Goals as goal
 
-pub slice_bounds-iter-count : goal.slice_bounds-iter-count
-slice_bounds-iter-count g c =
-    split_passed _ _ c.args.selector c.lower_bound-from.result c.upper_bound-to.result
-    (subst (λ t. Split (g.T.Element.placed c.args.self.now.property) c.args.self.now.items.now t
-    c.lower_bound-from.result) c.into.ensures c.lower_bound-from.ensures)
-    c.upper_bound-to.ensures
+pub loop-item-preserved : goal.loop-item-preserved
+loop-item-preserved g c =
+    let position = c.args.position in
+    let selector = c.args.selector in
+    let bound = c.args.bound in
+    let triple = g.T.Element.placed c.args.self.now.property in
+    let least = c.loop-item.least in
+    c.least_of-least.ensures ∙ least_lesser least c.offer.result
+    ∙ ap (lesser least) (c.offer.ensures ∙ ap (λ t. offer_of t position selector bound) c.triple-triple.ensures)
+    ∙ ap (λ l. better position selector bound l (triple c.item-item.result)) c.loop-item.invariant
+    ∙ sym (better_more position selector bound triple _ c.loop-item.item-index c.item-item.result
+    c.loop-item-test.true c.item-item.is)
 
-pub slice_bounds-iter-start : goal.slice_bounds-iter-start
-slice_bounds-iter-start g c =
-    split_passed _ _ c.args.selector c.lower_bound-from.result c.upper_bound-to.result
-    (subst (λ t. Split (g.T.Element.placed c.args.self.now.property) c.args.self.now.items.now t
-    c.lower_bound-from.result) c.into.ensures c.lower_bound-from.ensures)
-    c.upper_bound-to.ensures
+pub returns-then-is_passed : goal.returns-then-is_passed
+returns-then-is_passed g c =
+    let items = c.args.self.now.items.now in
+    let triple = g.T.Element.placed c.args.self.now.property in
+    let from = c.lower_bound-from.result in
+    let i = c.loop-item.item-index in
+    let inside = c.loop-item-test.true in
+    let met : (d : _) → get_or items (from + i) d ≡ c.item-item.result =
+    λ d. get_or_default items (from + i) d c.item-item.result (omega (arith, inside, length-drop from items))
+    ∙ sym (get_or-drop from items i c.item-item.result)
+    ∙ ap (λ xs. get_or xs i c.item-item.result) (sym (taken_rest from items)) ∙ sym c.item-item.is in
+    leapt_gone c.args.position c.args.selector c.args.bound triple items _ from i c.loop-item.least
+    (subst (λ t. Split triple items t from) c.into.ensures c.lower_bound-from.ensures)
+    (taken_rest from items)
+    c.loop-item.invariant
+    (λ k d low high. passed_behind triple items c.args.self.now.ordered c.args.selector (from + i) k d
+    (ap (λ x. passed c.args.selector (triple x)) (met d)
+    ∙ ap (passed c.args.selector) (sym c.triple-triple.ensures)
+    ∙ sym c.is_passed.ensures ∙ c.if-is_passed.true) low high)
 
 pub returns : goal.returns
 returns g c =
-    let run = c.args.self.now in
-    let triple = g.T.Element.placed run.property in
+    let items = c.args.self.now.items.now in
+    let triple = g.T.Element.placed c.args.self.now.property in
     let from = c.lower_bound-from.result in
-    let to = c.upper_bound-to.result in
-    let least = fold_from_yields_List _ (better c.args.position c.args.selector c.args.bound) None
-    c.fold.result c.fold.ensures.ran
-    (YieldsList-from_map _ triple
-    (YieldsList-at c.map.ensures.source (YieldsList-from_slice
-    (take (to - from) (drop from run.items.now)) c.iter.ensures.rest))
-    c.map.ensures.closure (λ x r q k. search rules))
-    (λ a t b q k. search rules) in
-    subst (Leapt _ c.args.position c.args.selector c.args.bound) (sym least)
-    (leapt_between c.args.position c.args.selector c.args.bound triple run.items.now from to
-    (subst (λ t. Split triple run.items.now t from) c.into.ensures c.lower_bound-from.ensures)
-    c.upper_bound-to.ensures)
+    leapt_gone c.args.position c.args.selector c.args.bound triple items _ from c.loop-item.item-index
+    c.loop-item.least
+    (subst (λ t. Split triple items t from) c.into.ensures c.lower_bound-from.ensures)
+    (taken_rest from items)
+    c.loop-item.invariant
+    (λ k d low high. absurd (omega (arith, low, high, c.loop-item-test.false, length-drop from items)))
