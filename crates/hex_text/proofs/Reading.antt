@@ -1,6 +1,6 @@
 -- Laws of reading a text at its front. Assumes nothing.
-use Rattle.std.proofs.Common.{◌≡◌, ℕ, Bool, true, false, cond, ◌&&◌, eqb, List, [], ◌∷◌, get_or, is_some, length}
-use Rattle.std.proofs.Common.{◌<◌, ◌≤◌, Bor}
+use Rattle.std.proofs.Common.{◌≡◌, ℕ, ◌<◌, ◌≤◌, Bool, true, false, cond, ◌&&◌, eqb, List, [], ◌∷◌}
+use Rattle.std.proofs.Common.{get_or, is_some, length, Bor}
 use Rattle.std.proofs.Common.{drop, Some, None, Option, refl, sym, ap, ◌∙◌, arith}
 use Rattle.std.specs.Bool.{then_some}
 use Rattle.std.specs.List.{IsSplitAt}
@@ -59,7 +59,7 @@ read_pair_some (c ∷ d ∷ cs) word rest b split none is =
     ∙ sym (ap (λ x. x && is_some (read_text rest)) is
     ∙ rw (split.1, split.2) refl)
 
--- what is left behind two digits, where b says that they are a byte; none where they are none
+-- what is left behind two digits, where b says that they are a byte; none where b says that they are not
 pub decided : (text : List ℕ) (rest : Bor (List ℕ)) (b : Bool) (r : Option (Bor (List ℕ)))
     → r ≡ then_some b rest → 2 ≤ length text → length rest.now < length text
     → is_some (read_text text) ≡ (b && is_some (read_text rest.now))

@@ -1,9 +1,9 @@
 -- What a text stands for, if it is bytes. Assumes nothing.
 --     front text        the byte whose digits begin the text
 --     read_text text    all its bytes, or none where it is something else
---     GoesOn text rest  rest is less, and is bytes exactly if the text is
-use Rattle.std.specs.Prelude.{◌≡◌, ℕ, ◌+◌, ◌*◌, ◌<◌, Bool, true, cond, List, [], ◌∷◌, length, is_some, Some, None}
-use Rattle.std.specs.Prelude.{Option, ◌==◌}
+--     GoesOn text rest  rest is shorter, and is bytes exactly if the text is
+use Rattle.std.specs.Prelude.{◌≡◌, ℕ, ◌+◌, ◌*◌, ◌<◌, Bool, true, cond, List, [], ◌∷◌, length, is_some}
+use Rattle.std.specs.Prelude.{Some, None, Option, ◌==◌}
 use Rattle.hex_text.specs.Characters.{digit_value, space}
 
 -- the text that comes behind two digits is empty or begins with a space
@@ -36,6 +36,6 @@ read_text (c ∷ []) = cond (c == space) (Some []) None
 read_text (c ∷ d ∷ rest) =
     cond (c == space) (read_text (d ∷ rest)) (led_by (front (c ∷ d ∷ rest)) (read_text rest))
 
--- rest is less than the text, and stands for bytes exactly if the text does
+-- rest is shorter than the text, and stands for bytes exactly if the text does
 abbrev pub GoesOn : List ℕ → List ℕ → Type 0
 GoesOn text rest = (length rest < length text) × (is_some (read_text rest) ≡ is_some (read_text text))

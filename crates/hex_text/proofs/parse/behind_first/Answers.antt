@@ -19,5 +19,6 @@ returns c =
       | then-is_some w ↦ search (rules, tests)
       | else-is_some w ↦ search (rules, tests)
     ]
-    in decided text rest c.if-is_some.then_some c.then_some.result c.then_some.ensures (omega (arith, split.0))
-    (omega (arith, split.0, split.4)) (read_pair_some text word rest.now _ split none is)
+    in decided text rest c.if-is_some.then_some c.then_some.result c.then_some.ensures
+    (omega (arith, split.0)) (omega (arith, split.0, split.4))
+    (read_pair_some text word rest.now _ split none is)

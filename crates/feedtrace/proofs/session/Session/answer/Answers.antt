@@ -1,5 +1,5 @@
--- The line asks the task that is carried out; or it is one about queries, as it is without white space at its
--- ends.
+-- The line asks the task that is carried out; or it is answered as one about queries, which it is without the
+-- white space at its ends too.
 use Rattle.std.proofs.Common.{rules, ◌≡◌, ℕ, List, false, is_some, Ok, Some, None, Option, Result, sym, ap}
 use Rattle.std.proofs.Common.{◌∙◌, subst, MatchOption}
 use Rattle.console.specs.declared.answer.Answer as answers
