@@ -69,7 +69,7 @@ module _ {X : Type 0} (triple : X → Triple) (xs : List X) (ordered : Ordered t
       (cases_eq i k)
 
   -- the elements that are not passed come first
-  pub partitioned_passed : (s : Selector) → IsPartitionedBy (λ x. not (passed s (triple x))) xs
+  partitioned_passed : (s : Selector) → IsPartitionedBy (λ x. not (passed s (triple x))) xs
   partitioned_passed s i k d h n e =
       passed_upto s (triple (get_or xs i d)) (triple (get_or xs k d)) e (ordered_upto i k d h n)
 

@@ -30,7 +30,7 @@ use Rattle.triples.specs.Unions.{union, earlier, lesser}
 use Rattle.triples.specs.Directory.{property_of, section, section_triples, triples_upto, table_triples}
 use Rattle.triples.specs.Laws.{among-append}
 use Rattle.triples.proofs.Meaning.{among_place}
-use Rattle.triples.proofs.Unions.{sought_union, leapt_union}
+use Rattle.triples.proofs.Unions.{sought_union, leapt_union, lesser_none}
 
 pub record Joins {R : Type 0} (s : Selector) (Q : (Triple → Bool) → Option R → Type 0)
     (best : Option R → Option R → Option R) : Type 0 where
@@ -55,10 +55,6 @@ joins_leap p s bound = record {
   only = lesser_none;
   silent = λ A quiet n o. both_ways (matches s o.triple) (quiet o.triple o.held) o.fit;
 }
-  where
-    lesser_none : (a : Option ℕ) → lesser a None ≡ a
-    lesser_none None = refl
-    lesser_none (Some n) = refl
 
 unlike_property : (s : Selector) (t : Triple) → accepts s.property t.property ≡ false
     → matches s t ≡ false

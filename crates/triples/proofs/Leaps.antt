@@ -26,7 +26,7 @@ use Rattle.triples.proofs.Order.{before_itself, same_is, same_itself}
 use Rattle.triples.proofs.Selectors.{floor_reached}
 use Rattle.triples.specs.Laws.{among-append}
 use Rattle.triples.proofs.Meaning.{among_place}
-use Rattle.triples.proofs.Unions.{leapt_union}
+use Rattle.triples.proofs.Unions.{leapt_union, lesser_none}
 
 module _ (p : Position) (s : Selector) (bound : ℕ) where
   -- sets with the same elements
@@ -80,10 +80,6 @@ module _ (p : Position) (s : Selector) (bound : ℕ) where
       leapt_like (union (among xs) (among ys)) (among (xs ++ ys)) (lesser a b)
       (λ t. sym (among-append xs ys t))
       (leapt_union (among xs) (among ys) p s bound a b f g)
-
-  lesser_none : (a : Option ℕ) → lesser a None ≡ a
-  lesser_none None = refl
-  lesser_none (Some n) = refl
 
   -- the lesser of a number and what a triple offers
   abbrev pub better : Option ℕ → Triple → Option ℕ

@@ -21,10 +21,6 @@ pub passed_upto : (s : Selector) (t u : Triple) → not (passed s u) ≡ true �
     → not (passed s t) ≡ true
 passed_upto s t u h k = grind (arith, nat_tests)
 
--- a triple before the floor is not passed
-pub passed_floor : (s : Selector) (t : Triple) → passed s t ≡ true → before t (floor s) ≡ false
-passed_floor s t h = grind (arith, nat_tests)
-
 -- aim
 
 pub aim_reached : (s : Selector) (p : Position) (bound : ℕ) (start t : Triple)

@@ -135,3 +135,8 @@ pub least_lesser : (a b : Option ℕ) → least nat_cmp a b ≡ lesser a b
 least_lesser None b = refl
 least_lesser (Some n) None = refl
 least_lesser (Some n) (Some k) = grind (arith, nat_tests)
+
+-- a number stays where there is none beside it
+pub lesser_none : (a : Option ℕ) → lesser a None ≡ a
+lesser_none None = refl
+lesser_none (Some n) = refl

@@ -58,13 +58,14 @@ impl<'a, T: Element> Run<'a, T> {
     {
         let from = self.lower_bound(selector.into());
         let mut least = None;
-        // Kept as a loop: a chain that folds what the triples offer takes up to 1.8 times as long.
+        // Kept as a loop: a chain that folds what the triples offer takes up to twice as long.
         for item in &self.items[from..] {
             let triple = item.triple(self.property);
-            if selector.is_passed(triple) {
+            if let Some(number) = offer(triple, position, selector, bound) {
+                least = least_of(least, Some(number));
+            } else if selector.is_passed(triple) {
                 return least;
             }
-            least = least_of(least, offer(triple, position, selector, bound));
         }
         least
     }

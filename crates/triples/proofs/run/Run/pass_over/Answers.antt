@@ -1,5 +1,5 @@
 -- The triples gone over decide: those before them are below the floor, those behind them are passed.
-use Rattle.std.proofs.Common.{◌≡◌, ◌+◌, get_or, sym, ap, ◌∙◌, subst, arith}
+use Rattle.std.proofs.Common.{◌≡◌, Some, ◌+◌, get_or, sym, ap, ◌∙◌, subst, arith}
 use Rattle.std.proofs.Common.{length-drop}
 use Rattle.std.proofs.lemmas.List.{get_or-drop, get_or_default}
 use Rattle.triples.specs.Finding.{Split, offer_of}
@@ -8,8 +8,9 @@ use Rattle.triples.proofs.Lists.{taken_rest}
 use Rattle.triples.proofs.Finding.{passed_behind}
 use Rattle.triples.specs.Unions.{lesser}
 use Rattle.triples.proofs.Leaps.{better, better_more, leapt_gone}
-use Rattle.triples.proofs.Unions.{least_lesser}
+use Rattle.triples.proofs.Unions.{least_lesser, lesser_none}
 use Rattle.triples.proofs.run.Run.pass_over.Goals as goal
+use Rattle.triples.proofs.run.Run.pass_over.Goals.{in-Some, in_default+else-is_passed}
 
 pub loop-item-preserved : goal.loop-item-preserved
 loop-item-preserved g c =
@@ -18,8 +19,14 @@ loop-item-preserved g c =
     let bound = c.args.bound in
     let triple = g.T.Element.placed c.args.self.now.property in
     let least = c.loop-item.least in
-    c.least_of-least.ensures ∙ least_lesser least c.offer.result
-    ∙ ap (lesser least) (c.offer.ensures ∙ ap (λ t. offer_of t position selector bound) c.triple-triple.ensures)
+    elim c.match-offer.branch [
+      | in-Some w ↦ w.least-is ∙ w.least_of-least.ensures ∙ least_lesser least (Some w.in-Some.number)
+          ∙ ap (lesser least) (sym w.in-Some.is)
+      | in_default+else-is_passed w ↦ w.least-is ∙ sym (lesser_none least)
+          ∙ ap (lesser least) (sym w.in_default.is)
+    ]
+    ∙ ap (lesser least) (c.offer.ensures
+    ∙ ap (λ t. offer_of t position selector bound) c.triple-triple.ensures)
     ∙ ap (λ l. better position selector bound l (triple c.item-item.result)) c.loop-item.invariant
     ∙ sym (better_more position selector bound triple _ c.loop-item.item-index c.item-item.result
     c.loop-item-test.true c.item-item.is)
