@@ -58,7 +58,7 @@ impl<'a, T: Element> Run<'a, T> {
     {
         let from = self.lower_bound(selector.into());
         let mut least = None;
-        // Kept as a loop: a chain that folds what the triples offer takes up to twice as long.
+        // Kept as a loop: a chain that folds what the triples offer took up to 1.8 times as long.
         for item in &self.items[from..] {
             let triple = item.triple(self.property);
             if let Some(number) = offer(triple, position, selector, bound) {

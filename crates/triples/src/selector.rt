@@ -58,7 +58,7 @@ impl Selector {
     pub(crate) fn is_passed(self, triple: Triple) -> bool
         ensures { result ≡ passed self triple }
     {
-        // Kept as one number at a time: where tuples are compared, a seek takes up to twice as long.
+        // Kept as one number at a time: with tuples, a seek of an object took twice as long and more.
         match self {
             Selector { subject: ANY, .. } => false,
             Selector { subject, .. } if subject != triple.subject => subject < triple.subject,
